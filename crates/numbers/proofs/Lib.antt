@@ -1,0 +1,6 @@
+pub mod Tests
+pub mod Difference
+pub mod Order
+pub mod Within
+pub mod Local
+pub mod Words

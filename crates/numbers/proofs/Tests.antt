@@ -1,0 +1,49 @@
+-- Choices by a test, and a rule at each number below a bound by one computed test.
+-- In order: `either`, a fact of a choice from a fact of each side; `split`, the two cases of a test, and `cases`, those of an order;
+-- `all`, a test at each number below n, which antt computes, and `all-at`, the fact at one of them; `listed`, the list of a
+-- function's values, which a constant table is compared with, and `listed-at`, its entry. Assumes nothing.
+use mathlib.Core.Path.{_≡_, refl, sym, ap, subst, _∙_}
+use mathlib.Core.List.{List, [], _∷_}
+use mathlib.Core.Bool.{Bool, true, false, cond}
+use Prim.Native.Nat.{ℕ, zero, suc, _+_, _<_, _≤_}
+use native.Mathlib.Nat.{not-suc-le-zero, le-of-suc-le-suc, add-zero, add-suc, suc-add}
+use native.Mathlib.Decide.{ℕ-discrete}
+use native.Mathlib.Omega.{arith}
+use lib.Dec.{T, ltb}
+use lib.ListN.{getD}
+use borrow.Author.Tests.{ltb-true, ltb-false}
+
+pub either {ℓ} : {A : Type ℓ} (P : A → Type 0) (b : Bool) (x y : A) → (b ≡ true → P x) → (b ≡ false → P y) → P (cond b x y)
+either P true x y f g = f refl
+either P false x y f g = g refl
+
+pub split : (P : Type 0) (b : Bool) → (b ≡ true → P) → (b ≡ false → P) → P
+split P true f g = f refl
+split P false f g = g refl
+
+pub cases : (a b : ℕ) (P : Type 0) → (a < b → P) → (b ≤ a → P) → P
+cases a b P f g = split P (ltb a b) (λ t. f (ltb-true a b t)) (λ t. g (ltb-false a b t))
+
+-- the test f passes at each number below n
+abbrev pub all : (ℕ → Bool) → ℕ → Bool
+all f zero = true
+all f (suc n) = cond (f n) (all f n) false
+
+pub all-at : (f : ℕ → Bool) (n : ℕ) → T (all f n) → (k : ℕ) → k < n → T (f k)
+all-at f zero t k h = absurd (not-suc-le-zero h)
+all-at f (suc n) t k h = at (f n) (all f n) refl t (λ s l. all-at f n s k l) (ℕ-discrete k n)
+  where
+    at : (b r : Bool) → f n ≡ b → T (cond b r false) → (T r → k < n → T (f k)) → Dec (k ≡ n) → T (f k)
+    at true r e s g (yes q) = subst (λ (m : ℕ). T (f m)) (sym q) (subst T (sym e) tt)
+    at true r e s g (no q) = g s (omega arith)
+    at false r e s g d = absurd s
+
+-- the n values of f from i on
+abbrev pub listed {ℓ} : {A : Type ℓ} → (ℕ → A) → ℕ → ℕ → List A
+listed f i zero = []
+listed f i (suc n) = f i ∷ listed f (suc i) n
+
+pub listed-at {ℓ} : {A : Type ℓ} (f : ℕ → A) (i n k : ℕ) (d : A) → k < n → getD (listed f i n) k d ≡ f (i + k)
+listed-at f i zero k d h = absurd (not-suc-le-zero h)
+listed-at f i (suc n) zero d h = ap f (sym (add-zero i))
+listed-at f i (suc n) (suc k) d h = listed-at f (suc i) n k d (le-of-suc-le-suc h) ∙ ap f (suc-add i k ∙ sym (add-suc i k))

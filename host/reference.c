@@ -1,0 +1,706 @@
+#include "reference.h"
+
+/* ==== the record: which bits each word may hold ========================== */
+
+static const uint32_t voice_kept[VOICE_WORDS] = {
+    0x0000FFFFu, /* CR */
+    0x0001FFFFu, /* FC */
+    0x0000FFFFu, /* LVOL */
+    0x0000FF00u, /* LVRAMP */
+    0x0000FFFFu, /* RVOL */
+    0x0000FF00u, /* RVRAMP */
+    0x000001FFu, /* ECOUNT */
+    0x0000FFFFu, /* K2 */
+    0x0000FF01u, /* K2RAMP */
+    0x0000FFFFu, /* K1 */
+    0x0000FF01u, /* K1RAMP */
+    0xFFFFF800u, /* START */
+    0xFFFFFF80u, /* END */
+    0xFFFFFFFFu, /* ACCUM */
+    0x0003FFFFu, /* O4(n-1) */
+    0x0003FFFFu, /* O3(n-1) */
+    0x0003FFFFu, /* O3(n-2) */
+    0x0003FFFFu, /* O2(n-1) */
+    0x0003FFFFu, /* O2(n-2) */
+    0x0003FFFFu  /* O1(n-1) */
+};
+
+static const uint32_t shared_kept[RECORD_WORDS - WORD_PAGE] = {
+    0x0000007Fu, /* PAGE */
+    0x000000FFu, /* IRQV; not every value of these bits, see record_is_valid */
+    0x000003FFu, /* PAR */
+    0x0000001Fu, /* ACTV */
+    0x0000001Fu, /* MODE */
+    0x0000007Fu, /* W_ST */
+    0x0000007Fu, /* W_END */
+    0x0000007Fu, /* LR_END */
+    0x00000007u, /* slow-ramp counter */
+    0xFFFFFFFFu, /* write latch */
+    0xFFFFFFFFu, /* read latch */
+    0x007FFFFFu, 0x007FFFFFu, /* channel 0, left and right */
+    0x007FFFFFu, 0x007FFFFFu, /* channel 1 */
+    0x007FFFFFu, 0x007FFFFFu, /* channel 2 */
+    0x007FFFFFu, 0x007FFFFFu, /* channel 3 */
+    0x007FFFFFu, 0x007FFFFFu, /* channel 4 */
+    0x007FFFFFu, 0x007FFFFFu  /* channel 5 */
+};
+
+#define FILTER_BITS  18u
+#define CHANNEL_BITS 23u
+
+static uint32_t kept_bits(uint32_t word)
+{
+    return word < WORD_PAGE ? voice_kept[word % VOICE_WORDS]
+                            : shared_kept[word - WORD_PAGE];
+}
+
+static int record_is_valid(const uint32_t *record)
+{
+    uint32_t word;
+
+    for (word = 0; word < RECORD_WORDS; word++) {
+        if ((record[word] & ~kept_bits(word)) != 0) {
+            return 0;
+        }
+    }
+    /* The interrupt vector is a voice number or the sign for none. */
+    return record[WORD_IRQV] < VOICES || record[WORD_IRQV] == NO_INTERRUPT;
+}
+
+/* Answers 1 and 2, which come first in every operation but reset. */
+static uint32_t ask_record(const uint32_t *record, size_t words)
+{
+    if (words != RECORD_WORDS) {
+        return ANSWER_RECORD_LENGTH;
+    }
+    if (!record_is_valid(record)) {
+        return ANSWER_RECORD_INVALID;
+    }
+    return ANSWER_DONE;
+}
+
+/* ==== whole-number helpers =============================================== */
+
+int64_t reference_divide(int64_t value, int64_t divisor)
+{
+    int64_t quotient = value / divisor;
+
+    /* C cuts toward zero: one less when something negative was cut off. */
+    if (value % divisor < 0) {
+        quotient -= 1;
+    }
+    return quotient;
+}
+
+int64_t reference_remainder(int64_t value, int64_t divisor)
+{
+    int64_t rest = value % divisor;
+
+    if (rest < 0) {
+        rest += divisor;
+    }
+    return rest;
+}
+
+static int64_t power_of_two(uint32_t exponent)
+{
+    int64_t power = 1;
+
+    while (exponent > 0) {
+        power *= 2;
+        exponent -= 1;
+    }
+    return power;
+}
+
+/* The number that the low bits of a word mean in two's complement. */
+static int64_t signed_from_bits(uint32_t word, uint32_t bits)
+{
+    int64_t value = (int64_t)word;
+
+    if (value >= power_of_two(bits - 1)) {
+        value -= power_of_two(bits);
+    }
+    return value;
+}
+
+/* The low bits of a number, as a word whose upper bits are 0. */
+static uint32_t bits_from_signed(int64_t value, uint32_t bits)
+{
+    return (uint32_t)reference_remainder(value, power_of_two(bits));
+}
+
+static int64_t hold(int64_t value, int64_t least, int64_t greatest)
+{
+    if (value < least) {
+        return least;
+    }
+    if (value > greatest) {
+        return greatest;
+    }
+    return value;
+}
+
+/* ==== reset ============================================================== */
+
+uint32_t reference_reset(uint32_t *record, size_t words)
+{
+    uint32_t word;
+    uint32_t voice;
+
+    /* The length is asked, the old contents are not. */
+    if (words != RECORD_WORDS) {
+        return ANSWER_RECORD_LENGTH;
+    }
+    for (word = 0; word < RECORD_WORDS; word++) {
+        record[word] = 0;
+    }
+    for (voice = 0; voice < VOICES; voice++) {
+        record[voice * VOICE_WORDS + VOICE_CR] = CR_STP0 | CR_STP1;
+    }
+    record[WORD_IRQV] = NO_INTERRUPT;
+    record[WORD_PAR] = 1023;
+    record[WORD_ACTV] = 31;
+    record[WORD_MODE] = 23;
+    return ANSWER_DONE;
+}
+
+/* ==== registers by byte ================================================== */
+
+#define REGISTER_PAR  13u
+#define REGISTER_IRQV 14u
+#define REGISTER_PAGE 15u
+#define NO_WORD       RECORD_WORDS /* the place has no word behind it */
+
+/* The record word that a page and a register number stand for. */
+static uint32_t word_of_register(uint32_t page, uint32_t number)
+{
+    /* The same three on every page. */
+    if (number == REGISTER_PAR) {
+        return WORD_PAR;
+    }
+    if (number == REGISTER_IRQV) {
+        return WORD_IRQV;
+    }
+    if (number == REGISTER_PAGE) {
+        return WORD_PAGE;
+    }
+
+    /* Lower half of a voice. */
+    if (page <= 31) {
+        if (number == 11) {
+            return WORD_ACTV;
+        }
+        if (number == 12) {
+            return WORD_MODE;
+        }
+        return page * VOICE_WORDS + number;
+    }
+
+    /* Upper half of a voice; CR shows here too. */
+    if (page <= 63) {
+        uint32_t first = (page - 32) * VOICE_WORDS;
+
+        switch (number) {
+        case 0:
+            return first + VOICE_CR;
+        case 1:
+            return first + VOICE_START;
+        case 2:
+            return first + VOICE_END;
+        case 3:
+            return first + VOICE_ACCUM;
+        case 4:
+            return first + VOICE_O4_N1;
+        case 5:
+            return first + VOICE_O3_N1;
+        case 6:
+            return first + VOICE_O3_N2;
+        case 7:
+            return first + VOICE_O2_N1;
+        case 8:
+            return first + VOICE_O2_N2;
+        case 9:
+            return first + VOICE_O1_N1;
+        case 10:
+            return WORD_W_ST;
+        case 11:
+            return WORD_W_END;
+        default:
+            return WORD_LR_END;
+        }
+    }
+
+    /* Channel sums, and one empty place. */
+    if (number <= 11) {
+        return WORD_CHANNEL + number;
+    }
+    return NO_WORD;
+}
+
+/* Byte 0 is the highest of the four. */
+static uint32_t byte_weight(uint32_t byte)
+{
+    static const uint32_t weights[4] = { 0x1000000u, 0x10000u, 0x100u, 1u };
+
+    return weights[byte];
+}
+
+uint32_t reference_write(uint32_t *record, size_t words, uint32_t address,
+                         uint8_t value)
+{
+    uint32_t number;
+    uint32_t byte;
+    uint32_t weight;
+    uint32_t latch;
+    uint32_t word;
+    uint32_t answer = ask_record(record, words);
+
+    if (answer != ANSWER_DONE) {
+        return answer;
+    }
+    if (address > ADDRESS_LIMIT) {
+        return ANSWER_ADDRESS;
+    }
+    number = address / 4;
+    byte = address % 4;
+
+    /* The byte takes its place in the one write latch. */
+    weight = byte_weight(byte);
+    latch = record[WORD_WRITE_LATCH];
+    latch = (latch & ~(0xFFu * weight)) | ((uint32_t)value * weight);
+
+    /* Bytes 0 to 2 go no further. */
+    if (byte != 3) {
+        record[WORD_WRITE_LATCH] = latch;
+        return ANSWER_DONE;
+    }
+
+    /* Byte 3 stores what the register keeps and empties the latch; places
+       that the host cannot write only see the latch emptied. */
+    word = word_of_register(record[WORD_PAGE], number);
+    if (word != WORD_PAR && word != WORD_IRQV && word != NO_WORD) {
+        record[word] = latch & kept_bits(word);
+    }
+    record[WORD_WRITE_LATCH] = 0;
+    return ANSWER_DONE;
+}
+
+uint32_t reference_read(uint32_t *record, size_t words, uint32_t address,
+                        uint8_t *byte)
+{
+    uint32_t number;
+    uint32_t place;
+    uint32_t word;
+    uint32_t answer = ask_record(record, words);
+
+    *byte = 0;
+    if (answer != ANSWER_DONE) {
+        return answer;
+    }
+    if (address > ADDRESS_LIMIT) {
+        return ANSWER_ADDRESS;
+    }
+    number = address / 4;
+    place = address % 4;
+
+    if (place == 0) {
+        word = word_of_register(record[WORD_PAGE], number);
+
+        /* The whole register goes in the read latch; the channels and the
+           empty place show as 0. */
+        if (word == NO_WORD || word >= WORD_CHANNEL) {
+            record[WORD_READ_LATCH] = 0;
+        } else {
+            record[WORD_READ_LATCH] = record[word];
+        }
+
+        /* Taking the pot result makes the register full scale again. */
+        if (word == WORD_PAR) {
+            record[WORD_PAR] = 1023;
+        }
+
+        /* Taking a waiting interrupt clears its voice's flag and frees the
+           vector. */
+        if (word == WORD_IRQV && record[WORD_IRQV] < VOICES) {
+            record[record[WORD_IRQV] * VOICE_WORDS + VOICE_CR] &= ~CR_IRQ;
+            record[WORD_IRQV] = NO_INTERRUPT;
+        }
+    }
+
+    /* Every byte comes out of the read latch. */
+    *byte = (uint8_t)(record[WORD_READ_LATCH] / byte_weight(place) % 256);
+    return ANSWER_DONE;
+}
+
+/* ==== pot result ========================================================= */
+
+uint32_t reference_set_pot(uint32_t *record, size_t words, uint32_t pot)
+{
+    uint32_t answer = ask_record(record, words);
+
+    if (answer != ANSWER_DONE) {
+        return answer;
+    }
+    if (pot > POT_LIMIT) {
+        return ANSWER_POT;
+    }
+    record[WORD_PAR] = pot;
+    return ANSWER_DONE;
+}
+
+/* ==== one frame ========================================================== */
+
+/* -- sample -- */
+
+/* One sample as a signed 16-bit number. */
+static int64_t fetch(const uint16_t *memory, size_t memory_words,
+                     uint32_t bank, uint32_t index, int compressed)
+{
+    uint32_t position = bank * BANK_WORDS + index;
+    uint32_t word = 0; /* what lies beyond the lent memory */
+
+    if (position < memory_words) {
+        word = memory[position];
+    }
+    if (compressed) {
+        /* Only the high byte counts. */
+        return reference_expand((uint8_t)(word / 256));
+    }
+    return signed_from_bits(word, 16);
+}
+
+int64_t reference_interpolate(int64_t s1, int64_t s2, int64_t fraction)
+{
+    return 4 * s1 + reference_divide(fraction * (s2 - s1), 128);
+}
+
+/* The filter input of a running voice. */
+static int64_t sample_input(const uint32_t *voice, const uint16_t *memory,
+                            size_t memory_words)
+{
+    uint32_t accum = voice[VOICE_ACCUM];
+    uint32_t index = accum / 2048;
+    uint32_t bank = voice[VOICE_CR] / 16384;
+    int compressed = (voice[VOICE_CR] & CR_CMPD) != 0;
+    int64_t s1 = fetch(memory, memory_words, bank, index, compressed);
+    /* The neighbour of a bank's last word is the same bank's first. */
+    int64_t s2 = fetch(memory, memory_words, bank, (index + 1) % BANK_WORDS,
+                       compressed);
+    int64_t fraction = (int64_t)(accum % 2048 / 4);
+
+    return reference_interpolate(s1, s2, fraction);
+}
+
+/* -- filters -- */
+
+int64_t reference_low_pass(int64_t k, int64_t x, int64_t yp)
+{
+    return yp + reference_divide(k * (x - yp), 4096);
+}
+
+int64_t reference_high_pass(int64_t k, int64_t x, int64_t xp, int64_t yp)
+{
+    int64_t y = x - xp + reference_divide(k * yp, 4096);
+
+    return hold(y, -131072, 131071);
+}
+
+/* Four poles in a row; stores the filter words and gives pole 4's output. */
+static int64_t run_filters(const uint32_t *old, uint32_t *voice, int64_t x)
+{
+    int64_t k1 = (int64_t)(old[VOICE_K1] / 16);
+    int64_t k2 = (int64_t)(old[VOICE_K2] / 16);
+    int lp3 = (old[VOICE_CR] & CR_LP3) != 0;
+    int lp4 = (old[VOICE_CR] & CR_LP4) != 0;
+    int64_t old_o1 = signed_from_bits(old[VOICE_O1_N1], FILTER_BITS);
+    int64_t old_o2 = signed_from_bits(old[VOICE_O2_N1], FILTER_BITS);
+    int64_t old_o3 = signed_from_bits(old[VOICE_O3_N1], FILTER_BITS);
+    int64_t old_o4 = signed_from_bits(old[VOICE_O4_N1], FILTER_BITS);
+    int64_t o1;
+    int64_t o2;
+    int64_t o3;
+    int64_t o4;
+
+    /* Poles 1 and 2: always low pass with K1. */
+    o1 = reference_low_pass(k1, x, old_o1);
+    o2 = reference_low_pass(k1, o1, old_o2);
+
+    /* Poles 3 and 4: chosen by LP4 and LP3 together. A high pass takes the
+       last output of the pole before it as its own last input. */
+    if (!lp4 && !lp3) {
+        o3 = reference_high_pass(k2, o2, old_o2, old_o3);
+        o4 = reference_high_pass(k2, o3, old_o3, old_o4);
+    } else if (!lp4 && lp3) {
+        o3 = reference_low_pass(k1, o2, old_o3);
+        o4 = reference_high_pass(k2, o3, old_o3, old_o4);
+    } else if (lp4 && !lp3) {
+        o3 = reference_low_pass(k2, o2, old_o3);
+        o4 = reference_low_pass(k2, o3, old_o4);
+    } else {
+        o3 = reference_low_pass(k1, o2, old_o3);
+        o4 = reference_low_pass(k2, o3, old_o4);
+    }
+
+    /* New outputs in the (n-1) words, the former ones in the (n-2) words. */
+    voice[VOICE_O1_N1] = bits_from_signed(o1, FILTER_BITS);
+    voice[VOICE_O2_N1] = bits_from_signed(o2, FILTER_BITS);
+    voice[VOICE_O3_N1] = bits_from_signed(o3, FILTER_BITS);
+    voice[VOICE_O4_N1] = bits_from_signed(o4, FILTER_BITS);
+    voice[VOICE_O2_N2] = old[VOICE_O2_N1];
+    voice[VOICE_O3_N2] = old[VOICE_O3_N1];
+    return o4;
+}
+
+/* -- volume -- */
+
+int64_t reference_volume(int64_t o, uint32_t volume)
+{
+    int64_t mantissa = (int64_t)(volume / 16 % 256);
+    uint32_t exponent = volume / 4096;
+    int64_t product = reference_divide(o * (256 + mantissa), 32);
+
+    return reference_divide(product, power_of_two(15 - exponent));
+}
+
+uint32_t reference_add_to_sum(uint32_t sum, int64_t value)
+{
+    return bits_from_signed((int64_t)sum + value, CHANNEL_BITS);
+}
+
+static void add_volume(const uint32_t *old, uint32_t *record, int64_t o4)
+{
+    uint32_t channel = old[VOICE_CR] / CR_CA0 % 8;
+    int64_t o = reference_divide(o4, 4);
+    uint32_t *sums;
+
+    /* There are six channels; the two other numbers go nowhere. */
+    if (channel > 5) {
+        return;
+    }
+    sums = record + WORD_CHANNEL + 2 * channel;
+    sums[0] = reference_add_to_sum(sums[0],
+                                   reference_volume(o, old[VOICE_LVOL]));
+    sums[1] = reference_add_to_sum(sums[1],
+                                   reference_volume(o, old[VOICE_RVOL]));
+}
+
+/* -- address -- */
+
+static void move_address(const uint32_t *old, uint32_t *voice)
+{
+    uint32_t cr = old[VOICE_CR];
+    int ignore = (cr & CR_LEI) != 0;
+    int reverse = (cr & CR_DIR) != 0;
+    int ble = (cr & CR_BLE) != 0;
+    int lpe = (cr & CR_LPE) != 0;
+    int64_t start = (int64_t)old[VOICE_START];
+    int64_t end = (int64_t)old[VOICE_END];
+    int64_t t; /* the next address, not yet wrapped */
+    int64_t d; /* how far it passed the loop point */
+
+    if (!reverse) {
+        t = (int64_t)old[VOICE_ACCUM] + (int64_t)old[VOICE_FC];
+        if (ignore || t <= end) {
+            voice[VOICE_ACCUM] = bits_from_signed(t, 32);
+            return;
+        }
+        d = t - end;
+        if (!ble && !lpe) {
+            /* No loop: rest on the end. */
+            voice[VOICE_ACCUM] = old[VOICE_END];
+            cr |= CR_STP0;
+        } else if (!ble && lpe) {
+            /* One-directional: on from the start. */
+            voice[VOICE_ACCUM] = bits_from_signed(start + d, 32);
+        } else if (ble && !lpe) {
+            /* Trans-wave: jump once, then run free. */
+            voice[VOICE_ACCUM] = bits_from_signed(start + d, 32);
+            cr &= ~CR_BLE;
+            cr |= CR_LEI;
+        } else {
+            /* Bi-directional: turn about at the end. */
+            voice[VOICE_ACCUM] = bits_from_signed(end - d, 32);
+            cr |= CR_DIR;
+        }
+    } else {
+        t = (int64_t)old[VOICE_ACCUM] - (int64_t)old[VOICE_FC];
+        if (ignore || t >= start) {
+            voice[VOICE_ACCUM] = bits_from_signed(t, 32);
+            return;
+        }
+        d = start - t;
+        if (!ble && !lpe) {
+            /* No loop: rest on the start. */
+            voice[VOICE_ACCUM] = old[VOICE_START];
+            cr |= CR_STP0;
+        } else if (!ble && lpe) {
+            /* One-directional: on from the end. */
+            voice[VOICE_ACCUM] = bits_from_signed(end - d, 32);
+        } else if (ble && !lpe) {
+            /* Trans-wave: jump once, then run free. */
+            voice[VOICE_ACCUM] = bits_from_signed(end - d, 32);
+            cr &= ~CR_BLE;
+            cr |= CR_LEI;
+        } else {
+            /* Bi-directional: turn about at the start. */
+            voice[VOICE_ACCUM] = bits_from_signed(start + d, 32);
+            cr &= ~CR_DIR;
+        }
+    }
+
+    /* A loop event came about: flag it if the voice may interrupt. */
+    if ((cr & CR_IRQE) != 0) {
+        cr |= CR_IRQ;
+    }
+    voice[VOICE_CR] = cr;
+}
+
+/* -- ramps -- */
+
+uint32_t reference_ramp(uint32_t value, uint32_t ramp)
+{
+    int64_t step = signed_from_bits(ramp / 256 % 256, 8);
+
+    return (uint32_t)hold((int64_t)value + step, 0, 65535);
+}
+
+/* A coefficient with the slow bit moves in one frame of eight only. */
+static uint32_t ramp_coefficient(uint32_t value, uint32_t ramp, uint32_t slow)
+{
+    if (ramp % 2 == 1 && slow != 0) {
+        return value;
+    }
+    return reference_ramp(value, ramp);
+}
+
+static void run_ramps(const uint32_t *old, uint32_t *voice, uint32_t slow)
+{
+    if (old[VOICE_ECOUNT] == 0) {
+        return;
+    }
+    voice[VOICE_LVOL] = reference_ramp(old[VOICE_LVOL], old[VOICE_LVRAMP]);
+    voice[VOICE_RVOL] = reference_ramp(old[VOICE_RVOL], old[VOICE_RVRAMP]);
+    voice[VOICE_K1] =
+        ramp_coefficient(old[VOICE_K1], old[VOICE_K1RAMP], slow);
+    voice[VOICE_K2] =
+        ramp_coefficient(old[VOICE_K2], old[VOICE_K2RAMP], slow);
+    voice[VOICE_ECOUNT] = old[VOICE_ECOUNT] - 1;
+}
+
+/* -- a voice's turn, and the whole frame -- */
+
+static void run_voice(uint32_t *record, uint32_t number,
+                      const uint16_t *memory, size_t memory_words)
+{
+    uint32_t *voice = record + number * VOICE_WORDS;
+    uint32_t old[VOICE_WORDS]; /* the registers as the turn begins */
+    int running;
+    int64_t x = 0; /* what a stopped voice feeds its filters */
+    int64_t o4;
+    uint32_t word;
+
+    for (word = 0; word < VOICE_WORDS; word++) {
+        old[word] = voice[word];
+    }
+    running = (old[VOICE_CR] & (CR_STP0 | CR_STP1)) == 0;
+
+    /* Sample, then filters; the filters work in stopped voices as well. */
+    if (running) {
+        x = sample_input(old, memory, memory_words);
+    }
+    o4 = run_filters(old, voice, x);
+
+    /* Volume, address and ramps are for running voices. */
+    if (running) {
+        add_volume(old, record, o4);
+        move_address(old, voice);
+        run_ramps(old, voice, record[WORD_SLOW]);
+    }
+
+    /* A flagged voice takes the vector if that is free. */
+    if ((voice[VOICE_CR] & CR_IRQ) != 0 &&
+        record[WORD_IRQV] == NO_INTERRUPT) {
+        record[WORD_IRQV] = number;
+    }
+}
+
+int32_t reference_output_value(uint32_t sum)
+{
+    return (int32_t)hold(signed_from_bits(sum, CHANNEL_BITS), -524288,
+                         524287);
+}
+
+uint32_t reference_frame(uint32_t *record, size_t words,
+                         const uint16_t *memory, size_t memory_words,
+                         int32_t *output, size_t output_values)
+{
+    uint32_t number;
+    uint32_t place;
+    uint32_t answer = ask_record(record, words);
+
+    if (answer != ANSWER_DONE) {
+        return answer;
+    }
+    if (memory_words > MEMORY_LIMIT) {
+        return ANSWER_MEMORY_LENGTH;
+    }
+    if (output_values != OUTPUT_VALUES) {
+        return ANSWER_OUTPUT_LENGTH;
+    }
+
+    /* The active voices, lowest first. */
+    for (number = 0; number <= record[WORD_ACTV]; number++) {
+        run_voice(record, number, memory, memory_words);
+    }
+
+    /* The sums go out, held to 20 bits, and start again from 0. */
+    for (place = 0; place < OUTPUT_VALUES; place++) {
+        output[place] = reference_output_value(record[WORD_CHANNEL + place]);
+        record[WORD_CHANNEL + place] = 0;
+    }
+
+    record[WORD_SLOW] = (record[WORD_SLOW] + 1) % 8;
+    return ANSWER_DONE;
+}
+
+/* ==== compressed samples ================================================= */
+
+int16_t reference_expand(uint8_t code)
+{
+    uint32_t e = (uint32_t)code / 32;
+    int64_t m = (int64_t)code % 32;
+
+    if (e >= 1) {
+        /* The lower half of the mantissas is the negative one. */
+        if (m < 16) {
+            m -= 32;
+        }
+        return (int16_t)(power_of_two(3 + e) * m);
+    }
+    /* With exponent 0 the mantissa is an ordinary signed number. */
+    if (m >= 16) {
+        m -= 32;
+    }
+    return (int16_t)(16 * m);
+}
+
+uint8_t reference_compress(int16_t sample)
+{
+    uint32_t code;
+    uint32_t best = 0;
+    int found = 0;
+
+    /* Of all codes, the one whose value is greatest without passing the
+       sample. No two codes have one value. */
+    for (code = 0; code < 256; code++) {
+        int16_t value = reference_expand((uint8_t)code);
+
+        if (value <= sample &&
+            (!found || value > reference_expand((uint8_t)best))) {
+            best = code;
+            found = 1;
+        }
+    }
+    return (uint8_t)best;
+}

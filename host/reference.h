@@ -1,0 +1,130 @@
+/*
+ * A plain reference model of the sound chip: the seven public operations over
+ * a machine record that the caller lends, and the few arithmetic rules that
+ * are worth checking by themselves.
+ *
+ * The model favours being easy to compare with the written rules over speed.
+ */
+#ifndef REFERENCE_H
+#define REFERENCE_H
+
+#include <stddef.h>
+#include <stdint.h>
+
+/* ---- answers of the public operations ---------------------------------- */
+
+#define ANSWER_DONE           0u
+#define ANSWER_RECORD_LENGTH  1u
+#define ANSWER_RECORD_INVALID 2u
+#define ANSWER_ADDRESS        3u
+#define ANSWER_POT            4u
+#define ANSWER_MEMORY_LENGTH  5u
+#define ANSWER_OUTPUT_LENGTH  6u
+
+/* ---- limits ------------------------------------------------------------- */
+
+#define RECORD_WORDS  663u
+#define VOICES        32u
+#define VOICE_WORDS   20u
+#define OUTPUT_VALUES 12u
+#define BANK_WORDS    2097152u
+#define MEMORY_LIMIT  8388608u
+#define ADDRESS_LIMIT 63u
+#define POT_LIMIT     1023u
+#define NO_INTERRUPT  128u
+
+/* ---- the record: words of a voice, counted from the voice's first word -- */
+
+#define VOICE_CR     0u
+#define VOICE_FC     1u
+#define VOICE_LVOL   2u
+#define VOICE_LVRAMP 3u
+#define VOICE_RVOL   4u
+#define VOICE_RVRAMP 5u
+#define VOICE_ECOUNT 6u
+#define VOICE_K2     7u
+#define VOICE_K2RAMP 8u
+#define VOICE_K1     9u
+#define VOICE_K1RAMP 10u
+#define VOICE_START  11u
+#define VOICE_END    12u
+#define VOICE_ACCUM  13u
+#define VOICE_O4_N1  14u
+#define VOICE_O3_N1  15u
+#define VOICE_O3_N2  16u
+#define VOICE_O2_N1  17u
+#define VOICE_O2_N2  18u
+#define VOICE_O1_N1  19u
+
+/* ---- the record: words that all voices share ---------------------------- */
+
+#define WORD_PAGE        640u
+#define WORD_IRQV        641u
+#define WORD_PAR         642u
+#define WORD_ACTV        643u
+#define WORD_MODE        644u
+#define WORD_W_ST        645u
+#define WORD_W_END       646u
+#define WORD_LR_END      647u
+#define WORD_SLOW        648u
+#define WORD_WRITE_LATCH 649u
+#define WORD_READ_LATCH  650u
+#define WORD_CHANNEL     651u /* 0L, 0R, 1L, 1R .. 5L, 5R */
+
+/* ---- bits of CR ---------------------------------------------------------- */
+
+#define CR_STP0 0x0001u
+#define CR_STP1 0x0002u
+#define CR_LEI  0x0004u
+#define CR_LPE  0x0008u
+#define CR_BLE  0x0010u
+#define CR_IRQE 0x0020u
+#define CR_DIR  0x0040u
+#define CR_IRQ  0x0080u
+#define CR_LP3  0x0100u
+#define CR_LP4  0x0200u
+#define CR_CA0  0x0400u
+#define CR_CA1  0x0800u
+#define CR_CA2  0x1000u
+#define CR_CMPD 0x2000u
+#define CR_BS0  0x4000u
+#define CR_BS1  0x8000u
+
+/* ---- the seven public operations ---------------------------------------- */
+
+uint32_t reference_reset(uint32_t *record, size_t words);
+uint32_t reference_write(uint32_t *record, size_t words, uint32_t address,
+                         uint8_t value);
+uint32_t reference_read(uint32_t *record, size_t words, uint32_t address,
+                        uint8_t *byte);
+uint32_t reference_set_pot(uint32_t *record, size_t words, uint32_t pot);
+uint32_t reference_frame(uint32_t *record, size_t words,
+                         const uint16_t *memory, size_t memory_words,
+                         int32_t *output, size_t output_values);
+uint8_t reference_compress(int16_t sample);
+int16_t reference_expand(uint8_t code);
+
+/* ---- arithmetic rules, open to separate checks -------------------------- */
+
+/* Quotient rounded down and remainder from 0 up; the divisor is above 0. */
+int64_t reference_divide(int64_t value, int64_t divisor);
+int64_t reference_remainder(int64_t value, int64_t divisor);
+
+/* Filter input, 18 bits, between two samples; fraction is 0..511. */
+int64_t reference_interpolate(int64_t s1, int64_t s2, int64_t fraction);
+
+/* One filter pole; k is 0..4095. */
+int64_t reference_low_pass(int64_t k, int64_t x, int64_t yp);
+int64_t reference_high_pass(int64_t k, int64_t x, int64_t xp, int64_t yp);
+
+/* What a voice adds to one side of its channel; o is signed 16 bits. */
+int64_t reference_volume(int64_t o, uint32_t volume);
+
+/* A volume or coefficient moved one step by its ramp register. */
+uint32_t reference_ramp(uint32_t value, uint32_t ramp);
+
+/* Channel sum (kept as 23 bits) with a value added, and as it is put out. */
+uint32_t reference_add_to_sum(uint32_t sum, int64_t value);
+int32_t reference_output_value(uint32_t sum);
+
+#endif
