@@ -1,0 +1,96 @@
+// The code chart as text: for each sample of the input its code and the code's value.
+// Everything but reading and writing is here. Each `put_` function stores its bytes from `at` on and answers the place after them.
+ghost use mathlib.Core.Path.{_≡_};
+ghost use Prim.Native.Nat.{_+_, _*_, _<_, _≤_};
+ghost use lib.ListN.{length};
+ghost use lib.Seq.{sets};
+ghost use Rattle.numbers.specs.Numbers.{signed, Within};
+ghost use Rattle.chart.specs.Chart.{decimal, number, line, lines, answerOf, outputOf};
+
+// What a chart into a lent output came to.
+pub enum Charted {
+    // So many bytes of it are the chart.
+    Written(usize),
+    // It has less than nine bytes for each byte of input, and is as it was.
+    NoRoom,
+}
+
+// The chart of the input, at the start of the output.
+pub fn chart(input: &[u8], out: &mut [u8]) -> Charted
+    ensures { λ r. ⌜ r ≡ answerOf (now (input .entry)) (now (out .entry)) ⌝ }
+    ensures { λ r. ⌜ now (out .exit) ≡ outputOf (now (input .entry)) (now (out .entry)) ⌝ }
+{
+    if out.len() / 9 < input.len() {
+        return Charted::NoRoom;
+    }
+    if 65536 < input.len() {
+        return Charted::Written(put(out, 0, b"too long\n"));
+    }
+    Charted::Written(put_lines(out, input))
+}
+
+// The lines of the input's pairs, and that of a last odd byte.
+fn put_lines(out: &mut [u8], input: &[u8]) -> usize
+    requires { ⌜ 9 * length (now input) ≤ length (now out) ⌝ }
+    ensures { λ r. ⌜ (r ≡ length (lines (now (input .entry)))) × (now (out .exit) ≡ sets (now (out .entry)) 0 (lines (now (input .entry)))) ⌝ }
+{
+    let pairs = input.len() / 2;
+    let mut at: usize = 0;
+    for k in 0..pairs {
+        at = put_line(out, at, input[2 * k], input[2 * k + 1]);
+    }
+    if 2 * pairs < input.len() {
+        at = put(out, at, b"odd byte\n");
+    }
+    at
+}
+
+// The line of the sample whose bytes are high and low.
+fn put_line(out: &mut [u8], at: usize, high: u8, low: u8) -> usize
+    requires { ⌜ at + 18 ≤ length (now out) ⌝ }
+    ensures { λ r. ⌜ (r ≡ at + length (line (signed 16 (256 * high + low)))) × (now (out .exit) ≡ sets (now (out .entry)) at (line (signed 16 (256 * high + low)))) ⌝ }
+{
+    let sample = numbers::number_of(16, 256 * (high as u32) + low as u32);
+    let code = codes::compress(sample as i16);
+    let a = put_number(out, at, sample);
+    let b = put(out, a, b" ");
+    let c = put_number(out, b, code as i32);
+    let d = put(out, c, b" ");
+    let e = put_number(out, d, codes::expand(code) as i32);
+    put(out, e, b"\n")
+}
+
+// A number in decimal, with a minus sign before one below zero.
+fn put_number(out: &mut [u8], at: usize, z: i32) -> usize
+    requires { ⌜ Within 99999 z ⌝ }
+    requires { ⌜ at + 6 ≤ length (now out) ⌝ }
+    ensures { λ r. ⌜ (r ≡ at + length (number z)) × (now (out .exit) ≡ sets (now (out .entry)) at (number z)) ⌝ }
+{
+    if z < 0 {
+        let digits = put(out, at, b"-");
+        return put_decimal(out, digits, (0 - z) as u64);
+    }
+    put_decimal(out, at, z as u64)
+}
+
+// The decimal digits of n.
+fn put_decimal(out: &mut [u8], at: usize, n: u64) -> usize
+    requires { ⌜ n < 100000 ⌝ }
+    requires { ⌜ at + 5 ≤ length (now out) ⌝ }
+    ensures { λ r. ⌜ (r ≡ at + length (decimal n)) × (now (out .exit) ≡ sets (now (out .entry)) at (decimal n)) ⌝ }
+{
+    let mut digits = [0u8; 20];
+    let k = io::decimal(n, &mut digits);
+    put(out, at, &digits[..k])
+}
+
+// The bytes of text.
+fn put(out: &mut [u8], at: usize, text: &[u8]) -> usize
+    requires { ⌜ at + length (now text) ≤ length (now out) ⌝ }
+    ensures { λ r. ⌜ (r ≡ at + length (now (text .entry))) × (now (out .exit) ≡ sets (now (out .entry)) at (now (text .entry))) ⌝ }
+{
+    for i in 0..text.len() {
+        out[at + i] = text[i];
+    }
+    at + text.len()
+}
