@@ -77,6 +77,17 @@ back w h = toZ-ofZ (record { sfits = h })
 pub ret : (w : Width) {n : ℕ} {z r : ℤ} → mag r < 2 ^ hbits w → r ≡ z → Within n z → Num w n z (toZ w (ofZ w r))
 ret w f e h = record { is = back w f ∙ e; size = h }
 
+-- the bits of a parameter, and of what a call returned, are those of the local that holds it
+pub bits-held : (w : Width) {n : ℕ} {z : ℤ} → T (ltb (2 ^ (n - 1)) (2 ^ hbits w)) → Bits n z → Bits n (toZ w (ofZ w z))
+bits-held w {n} t h = subst (Bits n) (sym (held w t h .is)) h
+
+pub bits-back : (w : Width) {n : ℕ} {r : ℤ} → mag r < 2 ^ hbits w → Bits n r → Bits n (toZ w (ofZ w r))
+bits-back w {n} f h = subst (Bits n) (sym (back w f)) h
+
+-- what a call returned, handed on: it is z, which the caller knows as z′, and has the call's property
+pub handed : (w : Width) (P : ℤ → Type 0) {r z z′ : ℤ} → mag r < 2 ^ hbits w → (r ≡ z) × P r → z ≡ z′ → (toZ w (ofZ w r) ≡ z′) × P (toZ w (ofZ w r))
+handed w P f e p = (back w f ∙ e .0 ∙ p, subst P (sym (back w f)) (e .1))
+
 -- a test of two signed locals is the test of their numbers
 pub test : {w : Width} {m n : ℕ} {x y u v : ℤ} {b : Bool} → Num w m x u → Num w n y v → ltZ u v ≡ b → ltZ x y ≡ b
 test a b t = sym (λ i. ltZ ((a .is) i) ((b .is) i)) ∙ t
