@@ -30,10 +30,16 @@ fn forward(cr: u32, fc: u32, start: u32, end: u32, accum: u32) -> Place
 {
     let t = accum as i64 + fc as i64;
     if control::flag(control::LEI, cr) {
-        return Place { accum: wrap(t), cr: cr };
+        return Place {
+            accum: wrap(t),
+            cr: cr,
+        };
     }
     if t <= end as i64 {
-        return Place { accum: wrap(t), cr: cr };
+        return Place {
+            accum: wrap(t),
+            cr: cr,
+        };
     }
     let d = t - end as i64;
     event(cr, end, start as i64 + d, end as i64 - d, 1)
@@ -45,13 +51,19 @@ fn reverse(cr: u32, fc: u32, start: u32, end: u32, accum: u32) -> Place
 {
     let t = accum as i64 - fc as i64;
     if control::flag(control::LEI, cr) {
-        return Place { accum: wrap(t), cr: cr };
+        return Place {
+            accum: wrap(t),
+            cr: cr,
+        };
     }
     if t < start as i64 {
         let d = start as i64 - t;
         return event(cr, start, end as i64 - d, start as i64 + d, 0);
     }
-    Place { accum: wrap(t), cr: cr }
+    Place {
+        accum: wrap(t),
+        cr: cr,
+    }
 }
 
 // A loop event, by the loop mode BLE, LPE.
@@ -65,15 +77,27 @@ fn event(cr: u32, stop: u32, other: i64, back: i64, turned: u32) -> Place
     let up = raise(cr);
     if control::flag(control::BLE, cr) {
         if control::flag(control::LPE, cr) {
-            return Place { accum: wrap(back), cr: control::with_bit(control::DIR, turned, up) };
+            return Place {
+                accum: wrap(back),
+                cr: control::with_bit(control::DIR, turned, up),
+            };
         }
         let once = control::with_bit(control::BLE, 0, up);
-        return Place { accum: wrap(other), cr: control::with_bit(control::LEI, 1, once) };
+        return Place {
+            accum: wrap(other),
+            cr: control::with_bit(control::LEI, 1, once),
+        };
     }
     if control::flag(control::LPE, cr) {
-        return Place { accum: wrap(other), cr: up };
+        return Place {
+            accum: wrap(other),
+            cr: up,
+        };
     }
-    Place { accum: stop, cr: control::with_bit(control::STP0, 1, up) }
+    Place {
+        accum: stop,
+        cr: control::with_bit(control::STP0, 1, up),
+    }
 }
 
 // The flag is set where the voice may interrupt.

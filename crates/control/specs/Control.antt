@@ -7,28 +7,34 @@ use lib.Dec.{eqb}
 -- stopped by the voice itself at a loop point, and by the host
 abbrev pub STP0 : ℕ
 STP0 = 0
+
 abbrev pub STP1 : ℕ
 STP1 = 1
 
 -- loop end ignored; loop enable, bidirectional loop enable
 abbrev pub LEI : ℕ
 LEI = 2
+
 abbrev pub LPE : ℕ
 LPE = 3
+
 abbrev pub BLE : ℕ
 BLE = 4
 
 -- interrupt enable; direction, 1 for reverse; the interrupt flag
 abbrev pub IRQE : ℕ
 IRQE = 5
+
 abbrev pub DIR : ℕ
 DIR = 6
+
 abbrev pub IRQ : ℕ
 IRQ = 7
 
 -- the passes of poles 3 and 4
 abbrev pub LP3 : ℕ
 LP3 = 8
+
 abbrev pub LP4 : ℕ
 LP4 = 9
 

@@ -5,15 +5,25 @@ ghost use Prim.Native.Nat.{_<_, _≤_};
 ghost use Rattle.control.specs.Control.{flagOf, withBit, channelOf, bankOf, runs};
 
 pub const STP0: u32 = 0;
+
 pub const STP1: u32 = 1;
+
 pub const LEI: u32 = 2;
+
 pub const LPE: u32 = 3;
+
 pub const BLE: u32 = 4;
+
 pub const IRQE: u32 = 5;
+
 pub const DIR: u32 = 6;
+
 pub const IRQ: u32 = 7;
+
 pub const LP3: u32 = 8;
+
 pub const LP4: u32 = 9;
+
 pub const CMPD: u32 = 13;
 
 // Whether bit n of the word is 1.

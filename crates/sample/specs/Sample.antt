@@ -28,9 +28,9 @@ sampleOf CR w = cond (flagOf CMPD CR) (valueOf (w / 256)) (signed 16 w)
 
 unfoldable pub fetched : List ℕ → ℕ → ℕ → Samples
 fetched memory CR ACCUM = record {
-      first = sampleOf CR (wordAt memory (firstAt CR ACCUM));
-      second = sampleOf CR (wordAt memory (secondAt CR ACCUM));
-    }
+  first = sampleOf CR (wordAt memory (firstAt CR ACCUM));
+  second = sampleOf CR (wordAt memory (secondAt CR ACCUM));
+}
 
 -- F: ACCUM's nine upper fractional bits
 unfoldable pub fraction : ℕ → ℕ

@@ -39,11 +39,7 @@ pub fn fetch(memory: &[u16], table: &[i16; 256], cr: u32, accum: u32) -> Samples
 fn word(memory: &[u16], at: usize) -> u16
     ensures { λ r. ⌜ r ≡ wordAt (now (memory .entry)) at ⌝ }
 {
-    if at < memory.len() {
-        memory[at]
-    } else {
-        0
-    }
+    if at < memory.len() { memory[at] } else { 0 }
 }
 
 // What a word stands for.

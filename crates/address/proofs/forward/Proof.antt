@@ -27,17 +27,15 @@ returns c =
 
 returns-2 : tie.Need-returns-2
 returns-2 c =
-    let s = c .before .before .before .before in
-    (
+    let s = c .before .before .before .before in (
       same-place (c .wrap2 .ensures ∙ ap (word 32) (target s .num .is)) refl
-      ∙ sym (forward-within _ _ _ _ _ (test-le (target s .num) (nat w64 4294967295 (s .args .end) tt (omega arith)) (c .before .if2 .taken))),
+          ∙ sym (forward-within _ _ _ _ _ (test-le (target s .num) (nat w64 4294967295 (s .args .end) tt (omega arith)) (c .before .if2 .taken))),
       s .pre,
     )
 
 event-requires : tie.Need-event-requires
 event-requires c κs =
-    let s = c .before .before .before in
-    (
+    let s = c .before .before .before in (
       s .pre,
       (
         within tt (add (nat w64 4294967295 (s .args .start) tt (omega arith)) (past s .num) tt .num),
@@ -49,10 +47,9 @@ returns-3 : tie.Need-returns-3
 returns-3 c =
     let s = c .before .before .before .before in
     let o = add (nat w64 4294967295 (s .args .start) tt (omega arith)) (past s .num) tt in
-    let b = sub (nat w64 4294967295 (s .args .end) tt (omega arith)) (past s .num) tt in
-    (
+    let b = sub (nat w64 4294967295 (s .args .end) tt (omega arith)) (past s .num) tt in (
       c .event .ensures .0 ∙ rw (o .num .is, b .num .is)
-      (sym (forward-event _ _ _ _ _ (sym (c .before .before .before .flag .ensures) ∙ c .before .before .if1 .left) (test-le (target s .num) (nat w64 4294967295 (s .args .end) tt (omega arith)) (c .before .if2 .left)))),
+          (sym (forward-event _ _ _ _ _ (sym (c .before .before .before .flag .ensures) ∙ c .before .before .if1 .left) (test-le (target s .num) (nat w64 4294967295 (s .args .end) tt (omega arith)) (c .before .if2 .left)))),
       c .event .ensures .1,
     )
 

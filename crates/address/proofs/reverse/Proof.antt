@@ -26,8 +26,7 @@ returns c =
 
 event-requires : tie.Need-event-requires
 event-requires c κs =
-    let s = c .before .before .before in
-    (
+    let s = c .before .before .before in (
       s .pre,
       (
         within tt (sub (nat w64 4294967295 (s .args .end) tt (omega arith)) (past s .num) tt .num),
@@ -39,19 +38,17 @@ returns-2 : tie.Need-returns-2
 returns-2 c =
     let s = c .before .before .before .before in
     let o = sub (nat w64 4294967295 (s .args .end) tt (omega arith)) (past s .num) tt in
-    let b = add (nat w64 4294967295 (s .args .start) tt (omega arith)) (past s .num) tt in
-    (
+    let b = add (nat w64 4294967295 (s .args .start) tt (omega arith)) (past s .num) tt in (
       c .event .ensures .0 ∙ rw (o .num .is, b .num .is)
-      (sym (reverse-event _ _ _ _ _ (sym (c .before .before .before .flag .ensures) ∙ c .before .before .if1 .left) (test (target s .num) (nat w64 4294967295 (s .args .start) tt (omega arith)) (c .before .if2 .taken)))),
+          (sym (reverse-event _ _ _ _ _ (sym (c .before .before .before .flag .ensures) ∙ c .before .before .if1 .left) (test (target s .num) (nat w64 4294967295 (s .args .start) tt (omega arith)) (c .before .if2 .taken)))),
       c .event .ensures .1,
     )
 
 returns-3 : tie.Need-returns-3
 returns-3 c =
-    let s = c .before .before .before .before in
-    (
+    let s = c .before .before .before .before in (
       same-place (c .wrap2 .ensures ∙ ap (word 32) (target s .num .is)) refl
-      ∙ sym (reverse-within _ _ _ _ _ (test (target s .num) (nat w64 4294967295 (s .args .start) tt (omega arith)) (c .before .if2 .left))),
+          ∙ sym (reverse-within _ _ _ _ _ (test (target s .num) (nat w64 4294967295 (s .args .start) tt (omega arith)) (c .before .if2 .left))),
       s .pre,
     )
 

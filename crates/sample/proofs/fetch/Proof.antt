@@ -23,11 +23,11 @@ returns c =
     let b = c .before .before .before .before .bank .ensures .0 in
     let y : ℤ → ℤ = λ r. toZ w32 (ofZ w32 r) in
     let r1 : (y (c .before .sample .result) ≡ sampleOf (a .cr) (wordAt (now (a .memory)) (firstAt (a .cr) (a .accum)))) × Bits 16 (y (c .before .sample .result)) =
-        handed w32 (Bits 16) (c .before .sample .ok) (c .before .sample .ensures)
-        (ap (sampleOf (a .cr)) (c .before .before .before .word .ensures ∙ ap (λ (n : ℕ). wordAt (now (a .memory)) (n * 2097152 + a .accum / 2048)) b)) in
+    handed w32 (Bits 16) (c .before .sample .ok) (c .before .sample .ensures)
+    (ap (sampleOf (a .cr)) (c .before .before .before .word .ensures ∙ ap (λ (n : ℕ). wordAt (now (a .memory)) (n * 2097152 + a .accum / 2048)) b)) in
     let r2 : (y (c .sample2 .result) ≡ sampleOf (a .cr) (wordAt (now (a .memory)) (secondAt (a .cr) (a .accum)))) × Bits 16 (y (c .sample2 .result)) =
-        handed w32 (Bits 16) (c .sample2 .ok) (c .sample2 .ensures)
-        (ap (sampleOf (a .cr)) (c .before .before .word2 .ensures ∙ ap (λ (n : ℕ). wordAt (now (a .memory)) (n * 2097152 + (a .accum / 2048 + 1) % 2097152)) b)) in
+    handed w32 (Bits 16) (c .sample2 .ok) (c .sample2 .ensures)
+    (ap (sampleOf (a .cr)) (c .before .before .word2 .ensures ∙ ap (λ (n : ℕ). wordAt (now (a .memory)) (n * 2097152 + (a .accum / 2048 + 1) % 2097152)) b)) in
     (same-samples (r1 .0) (r2 .0), (r1 .1, r2 .1))
 
 pub fetch-spec : {M : Type 1} → statement M
