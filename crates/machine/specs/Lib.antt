@@ -1,0 +1,4 @@
+pub mod Words
+pub mod Voices
+pub mod Calls
+pub mod Kept

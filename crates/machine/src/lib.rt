@@ -1,0 +1,183 @@
+// The machine record: its words by name, the bits that each keeps, the check that every call begins with, and reset.
+ghost use mathlib.Core.Path.{_≡_};
+ghost use Prim.Native.Nat.{_<_};
+ghost use lib.Dec.{eqb};
+ghost use lib.ListN.{length};
+ghost use Rattle.machine.specs.Words.{bitsOf};
+ghost use Rattle.machine.specs.Kept.{keptBy};
+ghost use Rattle.machine.specs.Calls.{checked, Resets, fresh};
+ghost use Rattle.machine.specs.Calls.{resetWord as Calls·resetWord};
+use answer::Answer;
+
+pub const WORDS: usize = 663;
+
+// The words above the voices.
+pub const PAGE: usize = 640;
+
+pub const IRQV: usize = 641;
+
+pub const PAR: usize = 642;
+
+pub const ACTV: usize = 643;
+
+pub const MODE: usize = 644;
+
+pub const W_ST: usize = 645;
+
+pub const W_END: usize = 646;
+
+pub const LR_END: usize = 647;
+
+pub const SLOW: usize = 648;
+
+pub const WRITE: usize = 649;
+
+pub const READ: usize = 650;
+
+pub const SUMS: usize = 651;
+
+// The bits kept by a voice's words, and by the words above the voices.
+const VOICE_BITS: [u32; 20] = [
+    65535,
+    131071,
+    65535,
+    65280,
+    65535,
+    65280,
+    511,
+    65535,
+    65281,
+    65535,
+    65281,
+    4294965248,
+    4294967168,
+    4294967295,
+    262143,
+    262143,
+    262143,
+    262143,
+    262143,
+    262143,
+];
+
+const ABOVE_BITS: [u32; 23] = [
+    127,
+    255,
+    1023,
+    31,
+    31,
+    127,
+    127,
+    127,
+    7,
+    4294967295,
+    4294967295,
+    8388607,
+    8388607,
+    8388607,
+    8388607,
+    8388607,
+    8388607,
+    8388607,
+    8388607,
+    8388607,
+    8388607,
+    8388607,
+    8388607,
+];
+
+// The bits that word i keeps.
+pub fn bits_of(i: usize) -> u32
+    requires { ⌜ i < 663 ⌝ }
+    ensures { λ r. ⌜ r ≡ bitsOf i ⌝ }
+{
+    if i < PAGE {
+        let j = i % 20;
+        VOICE_BITS[j]
+    } else {
+        let j = i - PAGE;
+        ABOVE_BITS[j]
+    }
+}
+
+// Whether a record may be used: its length, then its words. All words are looked at, with no way out on the way, so that the compiler
+// takes several at a time.
+pub fn check(m: &[u32]) -> Answer
+    ensures { λ r. ⌜ r ≡ checked (now (m .entry)) ⌝ }
+{
+    if m.len() != WORDS {
+        return Answer::RecordSize;
+    }
+    let voice = VOICE_BITS;
+    let mut stray: u32 = 0;
+    for v in 0..32 {
+        let a = 20 * v;
+        let e = a + 20;
+        stray = stray | stray_bits(&m[a..e], &voice);
+    }
+    let above = ABOVE_BITS;
+    let rest = stray_bits(&m[640..663], &above);
+    if stray | rest != 0 {
+        return Answer::RecordWord;
+    }
+    let vector = m[IRQV];
+    if vector < 32 {
+        return Answer::Done;
+    }
+    if vector == 128 {
+        return Answer::Done;
+    }
+    Answer::RecordWord
+}
+
+// The bits of the words that are not among those kept, all in one number.
+fn stray_bits(w: &[u32], kept: &[u32]) -> u32
+    requires { ⌜ length (now w) ≡ length (now kept) ⌝ }
+    ensures { λ r. ⌜ eqb r 0 ≡ keptBy (now (w .entry)) (now (kept .entry)) ⌝ }
+{
+    let mut stray: u32 = 0;
+    for i in 0..kept.len() {
+        let x = w[i];
+        stray = stray | (x ^ (x & kept[i]));
+    }
+    stray
+}
+
+// The record as it is after power-on. The old contents do not matter; only a record of another length is refused.
+pub fn reset(m: &mut [u32]) -> Answer
+    ensures { λ r. ⌜ Resets (now (m .entry)) r (now (m .exit)) ⌝ }
+{
+    if m.len() != WORDS {
+        return Answer::RecordSize;
+    }
+    fill(m);
+    Answer::Done
+}
+
+fn fill(m: &mut [u32])
+    requires { ⌜ length (now m) ≡ 663 ⌝ }
+    ensures { λ _. ⌜ now (m .exit) ≡ fresh ⌝ }
+{
+    for i in 0..663 {
+        m[i] = reset_word(i);
+    }
+}
+
+// Word i after a reset.
+fn reset_word(i: usize) -> u32
+    ensures { λ r. ⌜ r ≡ Calls·resetWord i ⌝ }
+{
+    if i < PAGE {
+        if i % 20 == 0 {
+            return 3;
+        }
+        return 0;
+    }
+    match i {
+        641 => 128,
+        642 => 1023,
+        643 => 31,
+        644 => 23,
+        _ => 0,
+    }
+}

@@ -1,0 +1,51 @@
+-- The calls that write a byte, read a byte and set the pot result: what each answers and leaves, refused calls too.
+-- Address a names register a / 4 and byte a mod 4. Assumes nothing.
+use mathlib.Core.Path.{_≡_}
+use Prim.Native.Nat.{ℕ, _/_, _%_}
+use mathlib.Core.Bool.{cond}
+use mathlib.Core.List.{List}
+use lib.Dec.{ltb}
+use lib.ListN.{getD, set}
+use Rattle.answer.specs.Answer.{isDone, refuse, first}
+use Rattle.answer.specs.declared.Answer.{Answer}
+use Rattle.answer.specs.declared.Answer.the-variants.{Address, Pot}
+use Rattle.machine.specs.Words.{PAR, READ}
+use Rattle.machine.specs.Calls.{checked}
+use Rattle.registers.specs.Registers.{byteOf, written, opened}
+
+-- ---- write and read
+
+unfoldable pub byteAnswer : List ℕ → ℕ → Answer
+byteAnswer m a = first (checked m) (refuse (ltb 63 a) Address)
+
+unfoldable pub writeRecord : List ℕ → ℕ → ℕ → List ℕ
+writeRecord m a b = cond (isDone (byteAnswer m a)) (written m (a / 4) (a % 4) b) m
+
+unfoldable pub readRecord : List ℕ → ℕ → List ℕ
+readRecord m a = cond (isDone (byteAnswer m a)) (opened m (a / 4) (a % 4)) m
+
+-- the byte of the read latch; 0 in a refusal
+unfoldable pub readByte : List ℕ → ℕ → ℕ
+readByte m a = cond (isDone (byteAnswer m a)) (byteOf (a % 4) (getD (readRecord m a) READ 0)) 0
+
+-- what a write promises, and a read
+pub record Writes (m : List ℕ) (a b : ℕ) (answer : Answer) (after : List ℕ) : Type 0 where
+  pub answers : answer ≡ byteAnswer m a
+  pub leaves : after ≡ writeRecord m a b
+
+pub record Reads (m : List ℕ) (a : ℕ) (answer : Answer) (byte : ℕ) (after : List ℕ) : Type 0 where
+  pub answers : answer ≡ byteAnswer m a
+  pub gives : byte ≡ readByte m a
+  pub leaves : after ≡ readRecord m a
+
+-- ---- the pot result
+
+unfoldable pub potAnswer : List ℕ → ℕ → Answer
+potAnswer m p = first (checked m) (refuse (ltb 1023 p) Pot)
+
+unfoldable pub potRecord : List ℕ → ℕ → List ℕ
+potRecord m p = cond (isDone (potAnswer m p)) (set m PAR p) m
+
+pub record SetsPot (m : List ℕ) (p : ℕ) (answer : Answer) (after : List ℕ) : Type 0 where
+  pub answers : answer ≡ potAnswer m p
+  pub leaves : after ≡ potRecord m p

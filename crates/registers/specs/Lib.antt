@@ -1,0 +1,3 @@
+pub mod Registers
+pub mod Inside
+pub mod Calls

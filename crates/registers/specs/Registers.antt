@@ -1,0 +1,89 @@
+-- The registers by byte: which register a page and a number name, a byte of the latches, and what a byte written or read does to a
+-- valid record.
+-- In order: the registers of each page; bytes of a word; writing; reading. Assumes nothing.
+use Prim.Native.Nat.{ℕ, _+_, _-_, _*_, _/_, _%_, _^_}
+use mathlib.Core.Bool.{cond}
+use mathlib.Core.List.{List}
+use lib.Dec.{eqb, ltb}
+use lib.ListN.{getD, set}
+use Rattle.control.specs.Control.{withBit, IRQ}
+use Rattle.machine.specs.Words.{PAGE, IRQV, PAR, ACTV, MODE, WST, WRITE, READ, SUMS, wordOf, cut}
+use Rattle.registers.specs.declared.Register.{Register}
+use Rattle.registers.specs.declared.Register.the-variants.{Word, Sum, Pot, Vector, Nothing}
+
+-- ---- the registers of a page
+
+-- pages 0 to 31: words 0 to 10 of voice v, and then ACTV and MODE
+unfoldable pub lowPage : ℕ → ℕ → Register
+lowPage v r = cond (ltb r 11) (Word (wordOf v r)) (cond (eqb r 11) (Word ACTV) (Word MODE))
+
+-- pages 32 to 63: CR, START, END and ACCUM of voice v and its filter words, and then W_ST, W_END and LR_END
+unfoldable pub highPage : ℕ → ℕ → Register
+highPage v r = cond (eqb r 0) (Word (wordOf v 0)) (cond (ltb r 10) (Word (wordOf v (10 + r))) (Word (WST + (r - 10))))
+
+-- pages 64 to 127: the channel sums, and one that is nothing
+unfoldable pub sumPage : ℕ → Register
+sumPage r = cond (ltb r 12) (Sum (SUMS + r)) Nothing
+
+-- registers 13 to 15 are the same on every page
+unfoldable pub registerOf : ℕ → ℕ → Register
+registerOf page r =
+    cond (eqb r 13) Pot
+    (cond (eqb r 14) Vector
+    (cond (eqb r 15) (Word PAGE)
+    (cond (ltb page 32) (lowPage page r)
+    (cond (ltb page 64) (highPage (page - 32) r) (sumPage r)))))
+
+-- ---- bytes of a word, byte 0 the highest
+
+unfoldable pub byteOf : ℕ → ℕ → ℕ
+byteOf k x = x / 2 ^ (24 - 8 * k) % 256
+
+unfoldable pub withByte : ℕ → ℕ → ℕ → ℕ
+withByte k b x = x / 2 ^ (32 - 8 * k) * 2 ^ (32 - 8 * k) + b * 2 ^ (24 - 8 * k) + x % 2 ^ (24 - 8 * k)
+
+-- ---- writing
+
+-- x, cut to the bits kept, stored in a register that can be written
+unfoldable pub stored : List ℕ → Register → ℕ → List ℕ
+stored m (Word i) x = set m i (cut i x)
+stored m (Sum i) x = set m i (cut i x)
+stored m Pot x = m
+stored m Vector x = m
+stored m Nothing x = m
+
+-- byte k of register r is written: it goes into the write latch, and byte 3 then stores the latch and clears it
+unfoldable pub written : List ℕ → ℕ → ℕ → ℕ → List ℕ
+written m r k b =
+    let latch = withByte k b (getD m WRITE 0) in
+    cond (eqb k 3) (set (stored m (registerOf (getD m PAGE 0) r) latch) WRITE 0) (set m WRITE latch)
+
+-- ---- reading
+
+-- what a register reads as
+unfoldable pub readAs : List ℕ → Register → ℕ
+readAs m (Word i) = getD m i 0
+readAs m (Sum i) = 0
+readAs m Pot = getD m PAR 0
+readAs m Vector = getD m IRQV 0
+readAs m Nothing = 0
+
+-- The vector is read: a voice that it names loses its interrupt flag, and the vector is empty again.
+unfoldable pub acknowledged : List ℕ → List ℕ
+acknowledged m =
+    let cr = wordOf (getD m IRQV 0) 0 in
+    cond (ltb (getD m IRQV 0) 32) (set (set m cr (withBit IRQ 0 (getD m cr 0))) IRQV 128) m
+
+-- what reading a register does besides
+unfoldable pub touched : List ℕ → Register → List ℕ
+touched m (Word i) = m
+touched m (Sum i) = m
+touched m Pot = set m PAR 1023
+touched m Vector = acknowledged m
+touched m Nothing = m
+
+-- byte k of register r is read: byte 0 first puts the register in the read latch
+unfoldable pub opened : List ℕ → ℕ → ℕ → List ℕ
+opened m r k =
+    let register = registerOf (getD m PAGE 0) r in
+    cond (eqb k 0) (touched (set m READ (readAs m register)) register) m

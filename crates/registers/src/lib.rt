@@ -1,0 +1,155 @@
+// The registers by byte: write a byte, read a byte, set the pot result.
+// Each public call checks what it is lent, refuses, or hands on to one worker; `decode` is the one map from page and register to word,
+// for writes and reads alike.
+ghost use mathlib.Core.Path.{_≡_};
+ghost use Prim.Native.Nat.{_<_};
+ghost use lib.ListN.{length};
+ghost use Rattle.registers.specs.Registers.{registerOf, byteOf, withByte, stored, written, touched, opened};
+ghost use Rattle.registers.specs.Inside.{Inside};
+ghost use Rattle.registers.specs.Calls.{Writes, Reads, SetsPot};
+use answer::Answer;
+
+// What a page and a register number name.
+pub enum Register {
+    // A word of the record that reads and writes.
+    Word(usize),
+    // A channel sum, which is written only.
+    Sum(usize),
+    // The pot result and the interrupt vector, which the host only reads.
+    Pot,
+    Vector,
+    Nothing,
+}
+
+// What a read gives.
+pub struct Got {
+    pub answer: Answer,
+    pub byte: u8,
+}
+
+pub fn write(m: &mut [u32], address: u32, value: u8) -> Answer
+    ensures { λ r. ⌜ Writes (now (m .entry)) address value r (now (m .exit)) ⌝ }
+{
+    let a = machine::check(m);
+    let Answer::Done = a else {
+        return a;
+    };
+    if 63 < address {
+        return Answer::Address;
+    }
+    write_byte(m, address / 4, address % 4, value);
+    Answer::Done
+}
+
+pub fn read(m: &mut [u32], address: u32) -> Got
+    ensures { λ r. ⌜ Reads (now (m .entry)) address (r .answer) (r .byte) (now (m .exit)) ⌝ }
+{
+    let a = machine::check(m);
+    let Answer::Done = a else {
+        return Got { answer: a, byte: 0 };
+    };
+    if 63 < address {
+        return Got {
+            answer: Answer::Address,
+            byte: 0,
+        };
+    }
+    let byte = read_byte(m, address / 4, address % 4);
+    Got {
+        answer: Answer::Done,
+        byte: byte,
+    }
+}
+
+pub fn set_pot(m: &mut [u32], value: u32) -> Answer
+    ensures { λ r. ⌜ SetsPot (now (m .entry)) value r (now (m .exit)) ⌝ }
+{
+    let a = machine::check(m);
+    let Answer::Done = a else {
+        return a;
+    };
+    if 1023 < value {
+        return Answer::Pot;
+    }
+    m[machine::PAR] = value;
+    Answer::Done
+}
+
+// Byte k of register r is written.
+fn write_byte(m: &mut [u32], r: u32, k: u32, b: u8)
+    requires { ⌜ length (now m) ≡ 663 ⌝ }
+    requires { ⌜ (r < 16) × (k < 4) ⌝ }
+    ensures { λ _. ⌜ now (m .exit) ≡ written (now (m .entry)) r k b ⌝ }
+{
+    let old = m[machine::WRITE];
+    let latch = with_byte(k, b, old);
+    if k != 3 {
+        m[machine::WRITE] = latch;
+        return;
+    }
+    let page = m[machine::PAGE];
+    let register = decode(page, r);
+    store(m, register, latch);
+    m[machine::WRITE] = 0;
+}
+
+// Byte k of register r is read.
+fn read_byte(m: &mut [u32], r: u32, k: u32) -> u8
+    requires { ⌜ valid (now m) ≡ true ⌝ }
+    requires { ⌜ (r < 16) × (k < 4) ⌝ }
+    ensures { λ b. ⌜ (now (m .exit) ≡ opened (now (m .entry)) r k) × (b ≡ byteOf k (getD (now (m .exit)) READ 0)) ⌝ }
+{
+    if k == 0 {
+        let page = m[machine::PAGE];
+        let register = decode(page, r);
+        open(m, register);
+    }
+    let latch = m[machine::READ];
+    byte(k, latch)
+}
+
+// The register that a page and a number name.
+fn decode(page: u32, r: u32) -> Register
+    requires { ⌜ r < 16 ⌝ }
+    ensures { λ p. ⌜ (p ≡ registerOf page r) × Inside p ⌝ }
+{
+    match r {
+        13 => Register::Pot,
+        14 => Register::Vector,
+        15 => Register::Word(machine::PAGE),
+        _ => match page {
+            0..=31 => match r {
+                0..=10 => Register::Word((20 * page + r) as usize),
+                11 => Register::Word(machine::ACTV),
+                _ => Register::Word(machine::MODE),
+            },
+            32..=63 => match r {
+                0 => Register::Word((20 * (page - 32)) as usize),
+                1..=9 => Register::Word((20 * (page - 32) + 10 + r) as usize),
+                _ => Register::Word(machine::W_ST + (r - 10) as usize),
+            },
+            _ => match r {
+                12 => Register::Nothing,
+                _ => Register::Sum(machine::SUMS + r as usize),
+            },
+        },
+    }
+}
+
+// x, cut to the bits kept, in a register that can be written.
+fn store(m: &mut [u32], register: Register, x: u32)
+    requires { ⌜ (length (now m) ≡ 663) × Inside register ⌝ }
+    ensures { λ _. ⌜ now (m .exit) ≡ stored (now (m .entry)) register x ⌝ }
+{
+    match register {
+        Register::Word(i) => {
+            m[i] = x & machine::bits_of(i);
+        }
+        Register::Sum(i) => {
+            m[i] = x & machine::bits_of(i);
+        }
+        Register::Pot => {}
+        Register::Vector => {}
+        Register::Nothing => {}
+    }
+}
