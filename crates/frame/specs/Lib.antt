@@ -1,0 +1,3 @@
+pub mod Voices
+pub mod Frame
+pub mod Speaks
