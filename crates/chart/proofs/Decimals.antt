@@ -5,12 +5,13 @@ use mathlib.Core.List.{List, [], _∷_, _++_}
 use Prim.Native.Nat.{ℕ, zero, suc, _+_, _-_, _*_, _/_, _%_, _^_, _<_, _≤_}
 use native.Mathlib.Nat.{le-refl, pow-suc, pow-le-pow-right, mod-eq-of-lt, mod-lt}
 use native.Mathlib.Omega.{arith}
-use borrow.Author.Tests.{lt-ltb, le-ltb}
+use borrow.Author.Tests.{lt-ltb, le-ltb, ltb-false}
 use lib.Dec.{ltb}
+use lib.IntN.{ℤ, pos, negsuc, natAbs}
 use lib.ListN.{length, length-append}
 use Rattle.io.specs.Digits.{digits, Fewest}
 use Rattle.numbers.proofs.Tests.{either, cases}
-use Rattle.chart.specs.Chart.{decimalIn}
+use Rattle.chart.specs.Chart.{decimalIn, number}
 
 -- 10 ^ i ≤ 10 ^ j, at exponents that stand in a goal
 power-le : (i j : ℕ) → i ≤ j → 10 ^ i ≤ 10 ^ j
@@ -21,8 +22,7 @@ tenth : (r n : ℕ) → Fewest 10 1 n (suc (suc r)) → (10 ≤ n) × Fewest 10 
 tenth r n f =
     let two : suc (suc r) - 1 ≡ suc r = omega arith in
     let one : suc r - 1 ≡ r = omega arith in
-    let up : 10 ^ suc r ≤ n = rw two at (f .2 (omega arith)) in
-    (
+    let up : 10 ^ suc r ≤ n = rw two at (f .2 (omega arith)) in (
       omega (arith, power-le 1 (suc r) (omega arith)),
       (
         omega arith,
@@ -51,11 +51,22 @@ digits-in (suc k) (suc (suc r)) n h f =
 pub decimal-digits : (k r n : ℕ) → 0 < k → n < 10 ^ k → Fewest 10 1 n r → digits 10 r n ≡ decimalIn k n
 decimal-digits k r n p h f = digits-in k r n (few k r n p h f) f
 
--- a decimal has no more digits than it may
-pub decimal-length : (k n : ℕ) → length (decimalIn k n) ≤ k
+-- a number of more than one digit has one digit more than its tenth
+shorter : (j n : ℕ) → 10 ≤ n → n < 10 ^ suc j → (0 < j) × (n / 10 < 10 ^ j)
+shorter zero n l h = absurd (let z : ⊥ = omega arith in z)
+shorter (suc j) n l h = (omega arith, omega (arith, pow-suc 10 (suc j)))
+
+-- a number below 10 ^ j has at most j digits
+pub decimal-length : (k j n : ℕ) → 0 < j → n < 10 ^ j → length (decimalIn k n) ≤ j
 unfolding decimalIn
-decimal-length zero n = le-refl 0
-decimal-length (suc k) n =
-    either (λ (xs : List ℕ). length xs ≤ suc k) (ltb n 10) ((48 + n) ∷ []) (decimalIn k (n / 10) ++ (48 + n % 10) ∷ [])
+decimal-length zero j n p h = omega arith
+decimal-length (suc k) zero n p h = absurd (let z : ⊥ = omega arith in z)
+decimal-length (suc k) (suc j) n p h =
+    either (λ (xs : List ℕ). length xs ≤ suc j) (ltb n 10) ((48 + n) ∷ []) (decimalIn k (n / 10) ++ (48 + n % 10) ∷ [])
     (λ t. omega arith)
-    (λ t. simp length-append (omega (arith, decimal-length k (n / 10))))
+    (λ t. let s = shorter j n (ltb-false n 10 t) h in simp length-append (omega (arith, decimal-length k j (n / 10) (s .0) (s .1))))
+
+-- and a number one more for its sign
+pub number-length : (j : ℕ) (z : ℤ) → 0 < j → natAbs z < 10 ^ j → length (number z) ≤ 1 + j
+number-length j (pos n) p h = omega (arith, decimal-length 5 j n p h)
+number-length j (negsuc n) p h = omega (arith, decimal-length 5 j (suc n) p h)

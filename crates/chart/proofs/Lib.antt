@@ -1,2 +1,3 @@
 pub mod Stores
 pub mod Decimals
+pub mod Lines

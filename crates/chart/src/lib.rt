@@ -1,6 +1,7 @@
 // The code chart as text: for each sample of the input its code and the code's value.
 // Everything but reading and writing is here. Each `put_` function stores its bytes from `at` on and answers the place after them.
 ghost use mathlib.Core.Path.{_≡_};
+ghost use mathlib.Core.List.{_++_};
 ghost use Prim.Native.Nat.{_+_, _*_, _<_, _≤_};
 ghost use lib.ListN.{length};
 ghost use Rattle.numbers.specs.Numbers.{signed, Within};
@@ -51,12 +52,19 @@ fn put_line(out: &mut [u8], at: usize, high: u8, low: u8) -> usize
 {
     let sample = numbers::number_of(16, 256 * (high as u32) + low as u32);
     let code = codes::compress(sample as i16);
-    let a = put_number(out, at, sample);
-    let b = put(out, a, b" ");
-    let c = put_number(out, b, code as i32);
-    let d = put(out, c, b" ");
-    let e = put_number(out, d, codes::expand(code) as i32);
-    put(out, e, b"\n")
+    let a = put_field(out, at, sample, b" ");
+    let b = put_field(out, a, code as i32, b" ");
+    put_field(out, b, codes::expand(code) as i32, b"\n")
+}
+
+// A number of a line, and what stands after it.
+fn put_field(out: &mut [u8], at: usize, z: i32, end: &[u8]) -> usize
+    requires { ⌜ Within 99999 z ⌝ }
+    requires { ⌜ at + 6 + length (now end) ≤ length (now out) ⌝ }
+    ensures { λ r. ⌜ Stored (now (out .entry)) at (number z ++ now (end .entry)) (now (out .exit)) r ⌝ }
+{
+    let digits = put_number(out, at, z);
+    put(out, digits, end)
 }
 
 // A number in decimal, with a minus sign before one below zero.

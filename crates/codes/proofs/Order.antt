@@ -87,8 +87,7 @@ next : (c d : ℕ) → c < 256 → d < 256 → placeAt c < placeAt d → (valueO
 next c d hc hd h =
     let p = at-place c hc in
     let n = next-rises (placeAt c) (omega (arith, at-place d hd .0)) in
-    let up : valueAt (suc (placeAt c)) ≤ℤ valueOf d = subst (λ (z : ℤ). valueAt (suc (placeAt c)) ≤ℤ z) (value-place d hd) (rise (suc (placeAt c)) (placeAt d) h (at-place d hd .0)) in
-    (
+    let up : valueAt (suc (placeAt c)) ≤ℤ valueOf d = subst (λ (z : ℤ). valueAt (suc (placeAt c)) ≤ℤ z) (value-place d hd) (rise (suc (placeAt c)) (placeAt d) h (at-place d hd .0)) in (
       <ℤ-≤ℤ-trans (subst (λ (z : ℤ). z <ℤ valueAt (suc (placeAt c))) (value-place c hc) (n .0)) up,
       ≤ℤ-trans (subst₂ (λ (z : ℤ) (k : ℕ). (z +ℤ pos (step k)) ≤ℤ valueAt (suc (placeAt c))) (value-place c hc) (p .1) (n .1)) up,
     )

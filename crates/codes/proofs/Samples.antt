@@ -172,10 +172,10 @@ more s n c c′ b h l f g = record { code = h; below = l; greatest = λ d k v. a
 best : (s : ℤ) → minus 32768 ≤ℤ s → (n : ℕ) → n ≤ 256 → Best s n (bestBelow s n)
 unfolding bestBelow
 best s m zero h = record {
-      code = omega arith;
-      below = subst (λ (z : ℤ). z ≤ℤ s) (sym lowest) m;
-      greatest = λ d l. absurd (not-suc-le-zero l);
-    }
+  code = omega arith;
+  below = subst (λ (z : ℤ). z ≤ℤ s) (sym lowest) m;
+  greatest = λ d l. absurd (not-suc-le-zero l);
+}
 best s m (suc n) h =
     let b = best s m n (omega arith) in
     let c = bestBelow s n in

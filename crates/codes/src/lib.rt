@@ -289,11 +289,7 @@ fn magnitude(sample: i16) -> u32
     ensures { λ r. ⌜ (r ≡ mag sample) × (r < 32768) ⌝ }
 {
     let s = sample as i32;
-    if s < 0 {
-        (-1 - s) as u32
-    } else {
-        s as u32
-    }
+    if s < 0 { (-1 - s) as u32 } else { s as u32 }
 }
 
 // The exponent of a sample of magnitude t: how many of the bits 8 to 14 it takes.
@@ -315,9 +311,5 @@ fn shift(e: u32) -> u32
     requires { ⌜ e < 8 ⌝ }
     ensures { λ r. ⌜ r ≡ 3 + max 1 e ⌝ }
 {
-    if e == 0 {
-        4
-    } else {
-        3 + e
-    }
+    if e == 0 { 4 } else { 3 + e }
 }

@@ -50,6 +50,7 @@ move z i j h = at z
     by a b =
         (λ k. ltZ ((a ⊖ b) +ℤ pos-⊖ i k) ((a ⊖ b) +ℤ pos-⊖ j k)) ∙ (λ k. ltZ (⊖-add a b i 0 k) (⊖-add a b j 0 k))
         ∙ ⊖-lt (a + i) (b + 0) (a + j) (b + 0) ∙ lt-ltb (a + i + (b + 0)) (a + j + (b + 0)) (omega arith)
+
     at : (y : ℤ) → ltZ (y +ℤ pos i) (y +ℤ pos j) ≡ true
     at (pos n) = subst (λ (y : ℤ). ltZ (y +ℤ pos i) (y +ℤ pos j) ≡ true) (sym (pos-⊖ n)) (by n 0)
     at (negsuc n) = subst (λ (y : ℤ). ltZ (y +ℤ pos i) (y +ℤ pos j) ≡ true) (sym (negsuc-⊖ n)) (by 0 (suc n))

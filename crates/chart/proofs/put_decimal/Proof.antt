@@ -17,7 +17,7 @@ text c =
     c .decimal .ensures .1 .1 ∙ decimal-digits 5 (c .decimal .result) n (omega arith) (omega arith) (c .decimal .ensures .1 .0)
 
 put-requires : tie.Need-put-requires
-put-requires c κs = rw (text (c .before .before)) (omega (arith, decimal-length 5 (c .before .before .before .before .before .args .n)))
+put-requires c κs = rw (text (c .before .before)) (omega (arith, decimal-length 5 5 (c .before .before .before .before .before .args .n) (omega arith) (omega arith)))
 
 returns : tie.Need-returns
 returns c = rw (← text (c .before .before .before .before .before)) (c .before .before .put .ensures)

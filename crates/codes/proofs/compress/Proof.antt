@@ -35,7 +35,7 @@ returns c =
     let e = c .before .before .exponent in
     let d = shifted (2 ^ c .before .shift .result) (s .fits .sample) in
     let w : c .word-of .result ≡ word 5 (floorDiv (s .args .sample) (power (e .result))) =
-        c .word-of .ensures .0 ∙ ap (word 5) (d .num .is) ∙ ap (λ (k : ℕ). word 5 (floorDiv (s .args .sample) (2 ^ k))) (c .before .shift .ensures) in
+    c .word-of .ensures .0 ∙ ap (word 5) (d .num .is) ∙ ap (λ (k : ℕ). word 5 (floorDiv (s .args .sample) (2 ^ k))) (c .before .shift .ensures) in
     subst (λ (m : ℕ). Compressed (s .args .sample) (32 * e .result + m)) (sym w)
     (made-compressed (s .args .sample) (e .result) (subst (λ (t : ℕ). Exponent t (e .result)) (c .before .before .before .magnitude .ensures .0 ∙ ap mag (toZ-ofZ (s .fits .sample))) (e .ensures)))
 

@@ -33,8 +33,8 @@ short t k e = let q : t < 1 * 2 ^ k = div-lt-iff-lt-mul (pow-pos k) .0 (omega ar
 one-more : (t e bit : ℕ) → Counted t e bit → bit < 15 → 2 ^ bit ≤ t → Counted t (e + 1) (bit + 1)
 one-more t e bit c h r =
     let all : e + 8 ≡ bit = cases (e + 8) bit (e + 8 ≡ bit)
-        (λ l. absurd (let m : 2 ^ (8 + e) ≤ 2 ^ bit = pow-mono (omega arith) in let z : ⊥ = omega (arith, c .reached l) in z))
-        (λ l. omega arith) in
+    (λ l. absurd (let m : 2 ^ (8 + e) ≤ 2 ^ bit = pow-mono (omega arith) in let z : ⊥ = omega (arith, c .reached l) in z))
+    (λ l. omega arith) in
     record {
       low = omega arith;
       high = omega arith;
@@ -45,12 +45,12 @@ one-more t e bit c h r =
 
 no-more : (t e bit : ℕ) → Counted t e bit → bit < 15 → t < 2 ^ bit → Counted t e (bit + 1)
 no-more t e bit c h r = record {
-      low = omega arith;
-      high = omega arith;
-      few = omega arith;
-      reached = λ l. cases (e + 8) bit (t < 2 ^ (8 + e)) (c .reached) (λ k. let q : bit ≡ 8 + e = omega arith in subst (λ (n : ℕ). t < 2 ^ n) q r);
-      least = c .least;
-    }
+  low = omega arith;
+  high = omega arith;
+  few = omega arith;
+  reached = λ l. cases (e + 8) bit (t < 2 ^ (8 + e)) (c .reached) (λ k. let q : bit ≡ 8 + e = omega arith in subst (λ (n : ℕ). t < 2 ^ n) q r);
+  least = c .least;
+}
 
 abbrev Inv-loop : tie.InvT-loop
 Inv-loop t e₀ bit₀ e bit = Counted t e bit
@@ -60,12 +60,12 @@ abbrev μ-loop : tie.MeasureT-loop
 
 loop-holds : tie.Need-loop-holds Inv-loop μ-loop
 loop-holds c = record {
-      low = omega arith;
-      high = omega arith;
-      few = omega arith;
-      reached = λ l. absurd (let z : ⊥ = omega arith in z);
-      least = λ l. absurd (let z : ⊥ = omega arith in z);
-    }
+  low = omega arith;
+  high = omega arith;
+  few = omega arith;
+  reached = λ l. absurd (let z : ⊥ = omega arith in z);
+  least = λ l. absurd (let z : ⊥ = omega arith in z);
+}
 
 loop-again : tie.Need-loop-again Inv-loop μ-loop
 loop-again c =

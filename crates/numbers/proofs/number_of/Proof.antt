@@ -25,12 +25,12 @@ record Half (n h : ℕ) : Type 0 where
 
 half : (n : ℕ) → (0 < n) × (n ≤ 24) → Half n ((1 * 2 ^ (n - 1)) % 4294967296)
 half n h = record {
-      is = bit-at (n - 1) (omega arith);
-      small = pow-mono {i = n - 1} {j = 23} (omega arith);
-      above = pow-pos (n - 1);
-      wide = h .0;
-      twice = half-twice n (h .0);
-    }
+  is = bit-at (n - 1) (omega arith);
+  small = pow-mono {i = n - 1} {j = 23} (omega arith);
+  above = pow-pos (n - 1);
+  wide = h .0;
+  twice = half-twice n (h .0);
+}
 
 -- the number: the wrapped sum less half the range
 less : (n w h : ℕ) → Half n h → w < 2 ^ n → Done w32 25165824 (signed n w) (toZ w32 ((w + h) % (2 * h)) -ℤ toZ w32 h)
