@@ -2,3 +2,4 @@ pub mod Stores
 pub mod Decimals
 pub mod Lines
 pub mod Example
+pub mod Answers
