@@ -1,8 +1,11 @@
 -- Compressed samples: the value of a code of 8 bits, and the code of a sample of 16.
--- First `valueOf`, what a code stands for; then `Compressed`, which code a sample gets, and `codeOf`, that code found by
+-- First `valueOf`, what a code stands for, and a table of it; then `Compressed`, which code a sample gets, and `codeOf`, that code found by
 -- trying all. Assumes nothing.
 use Prim.Native.Nat.{ℕ, zero, suc, _+_, _/_, _%_, _^_, _<_}
+use mathlib.Core.Path.{_≡_}
 use mathlib.Core.Bool.{Bool, cond, _&&_}
+use mathlib.Core.List.{List}
+use lib.ListN.{length, getD}
 use lib.Dec.{ltb}
 use lib.IntN.{ℤ, pos, _-ℤ_, _*ℤ_}
 use lib.Signed.{leZ, ltZ, _≤ℤ_}
@@ -15,6 +18,11 @@ valueOf c =
     cond (ltb 0 (c / 32))
     (pos (2 ^ (3 + c / 32)) *ℤ cond (ltb (c % 32) 16) (pos (c % 32) -ℤ pos 32) (pos (c % 32)))
     (pos 16 *ℤ cond (ltb (c % 32) 16) (pos (c % 32)) (pos (c % 32) -ℤ pos 32))
+
+-- a table that expands: the value of each code, in the codes' order
+pub record Expands (table : List ℤ) : Type 0 where
+  pub size : length table ≡ 256
+  pub entry : (c : ℕ) → c < 256 → getD table c (pos 0) ≡ valueOf c
 
 -- c is the code of the sample s: its value is not above s, and no code's value lies between
 pub record Compressed (s : ℤ) (c : ℕ) : Type 0 where

@@ -4,11 +4,11 @@
 ghost use mathlib.Core.Path.{_≡_};
 ghost use Prim.Native.Nat.{_+_, _^_, _<_, max};
 ghost use lib.Signed.{mag};
-ghost use Rattle.codes.specs.Codes.{valueOf, Compressed};
+ghost use Rattle.codes.specs.Codes.{valueOf, Expands, Compressed};
 ghost use Rattle.codes.specs.Exponent.{Exponent};
 
 // The value of each code, from code 0 up.
-pub const VALUES: [i16; 256] = [
+const VALUES: [i16; 256] = [
     0,
     16,
     32,
@@ -267,12 +267,28 @@ pub const VALUES: [i16; 256] = [
     31744,
 ];
 
+// The table, for a caller that expands many codes: it is made once, where this is called, and lent to `look_up`.
+pub fn values() -> [i16; 256]
+    ensures { λ r. ⌜ Expands r ⌝ }
+{
+    VALUES
+}
+
+// The value of a code, read from the lent table.
+pub fn look_up(table: &[i16; 256], code: u8) -> i16
+    requires { ⌜ Expands (now table) ⌝ }
+    ensures { λ r. ⌜ r ≡ valueOf code ⌝ }
+{
+    let at = code as usize;
+    table[at]
+}
+
 // The value of a code.
 pub fn expand(code: u8) -> i16
     ensures { λ r. ⌜ r ≡ valueOf code ⌝ }
 {
-    let at = code as usize;
-    VALUES[at]
+    let table = values();
+    look_up(&table, code)
 }
 
 // The code with the greatest value that is not above the sample.

@@ -3,11 +3,11 @@
 -- with the check that the new bound fits as `tt`. Assumes nothing.
 use mathlib.Core.Path.{_≡_, refl, sym, ap, subst, _∙_}
 use Prim.Native.Nat.{ℕ, _+_, _-_, _*_, _/_, _^_, _≤_, _<_}
-use lib.Dec.{T, ltb, ltb→lt}
+use lib.Dec.{T, ltb, leb, ltb→lt}
 use native.Mathlib.Nat.{lt-of-le-of-lt, le-refl}
 use mathlib.Core.Bool.{Bool, _&&_}
 use lib.IntN.{ℤ, pos, negsuc, natAbs, _+ℤ_, _-ℤ_, _*ℤ_}
-use lib.Signed.{shrZ, ltZ, nonNeg, mag}
+use lib.Signed.{shrZ, ltZ, leZ, nonNeg, mag}
 use mir.Syntax.{Width}
 use mir.Val.{SFits, Fits, bits, toZ, ofZ, hbits}
 use mir.Facts.{toZ-ofZ, toZ-pos, and-yes}
@@ -77,9 +77,27 @@ back w h = toZ-ofZ (record { sfits = h })
 pub ret : (w : Width) {n : ℕ} {z r : ℤ} → mag r < 2 ^ hbits w → r ≡ z → Within n z → Num w n z (toZ w (ofZ w r))
 ret w f e h = record { is = back w f ∙ e; size = h }
 
+-- the bits of a parameter, and of what a call returned, are those of the local that holds it
+pub bits-held : (w : Width) {n : ℕ} {z : ℤ} → T (ltb (2 ^ (n - 1)) (2 ^ hbits w)) → Bits n z → Bits n (toZ w (ofZ w z))
+bits-held w {n} t h = subst (Bits n) (sym (held w t h .is)) h
+
+pub bits-back : (w : Width) {n : ℕ} {r : ℤ} → mag r < 2 ^ hbits w → Bits n r → Bits n (toZ w (ofZ w r))
+bits-back w {n} f h = subst (Bits n) (sym (back w f)) h
+
+-- what a call returned, handed on: it is z, which the caller knows as z′, and has the call's property
+pub handed : (w : Width) (P : ℤ → Type 0) {r z z′ : ℤ} → mag r < 2 ^ hbits w → (r ≡ z) × P r → z ≡ z′ → (toZ w (ofZ w r) ≡ z′) × P (toZ w (ofZ w r))
+handed w P f e p = (back w f ∙ e .0 ∙ p, subst P (sym (back w f)) (e .1))
+
 -- a test of two signed locals is the test of their numbers
 pub test : {w : Width} {m n : ℕ} {x y u v : ℤ} {b : Bool} → Num w m x u → Num w n y v → ltZ u v ≡ b → ltZ x y ≡ b
 test a b t = sym (λ i. ltZ ((a .is) i) ((b .is) i)) ∙ t
+
+pub test-le : {w : Width} {m n : ℕ} {x y u v : ℤ} {b : Bool} → Num w m x u → Num w n y v → leZ u v ≡ b → leZ x y ≡ b
+test-le a b t = sym (λ i. leZ ((a .is) i) ((b .is) i)) ∙ t
+
+-- the range of a local, as a call requires it
+pub within : {w : Width} {m n : ℕ} {z v : ℤ} → T (leb m n) → Num w m z v → Within n v
+within {m} {n} t a = subst (Within n) (sym (a .is)) (W.widen t (a .size))
 
 -- `z as u32` of a signed local that is not negative
 pub as-nat : {w w′ : Width} {n : ℕ} {z v : ℤ} → Num w n z v → T (ltb n (2 ^ bits w′)) → T (nonNeg z) → T (nonNeg v) × Fits w′ (natAbs v)

@@ -1,0 +1,80 @@
+-- The address step by its tests: the four events, and the ways of a step forward and in reverse. Assumes nothing.
+use mathlib.Core.Path.{_≡_, refl, sym, ap, _∙_}
+use mathlib.Core.Bool.{true, false, not, _||_}
+use Prim.Native.Nat.{ℕ}
+use lib.IntN.{ℤ, pos, _+ℤ_, _-ℤ_}
+use lib.Signed.{leZ, ltZ}
+use Rattle.numbers.specs.Numbers.{word}
+use Rattle.numbers.proofs.Tests.{split}
+use Rattle.control.specs.Control.{flagOf, withBit, STP0, LEI, LPE, BLE, IRQE, DIR, IRQ}
+use Rattle.address.specs.declared.Place.{Place}
+use Rattle.address.specs.Address.{raised, event, forward, reverse, stepped}
+
+module _ (CR : ℕ) where
+  pub raised-on : flagOf IRQE CR ≡ true → raised CR ≡ withBit IRQ 1 CR
+  unfolding raised
+  raised-on t = rw t
+
+  pub raised-off : flagOf IRQE CR ≡ false → raised CR ≡ CR
+  unfolding raised
+  raised-off t = rw t
+
+module _ (CR stop : ℕ) (other back : ℤ) (turned : ℕ) where
+  pub turns : flagOf BLE CR ≡ true → flagOf LPE CR ≡ true → event CR stop other back turned ≡ record { accum = word 32 back; cr = withBit DIR turned (raised CR) }
+  unfolding event
+  turns b l = rw (b, l)
+
+  pub goes-on-once : flagOf BLE CR ≡ true → flagOf LPE CR ≡ false → event CR stop other back turned ≡ record { accum = word 32 other; cr = withBit LEI 1 (withBit BLE 0 (raised CR)) }
+  unfolding event
+  goes-on-once b l = rw (b, l)
+
+  pub goes-on : flagOf BLE CR ≡ false → flagOf LPE CR ≡ true → event CR stop other back turned ≡ record { accum = word 32 other; cr = raised CR }
+  unfolding event
+  goes-on b l = rw (b, l)
+
+  pub stops : flagOf BLE CR ≡ false → flagOf LPE CR ≡ false → event CR stop other back turned ≡ record { accum = stop; cr = withBit STP0 1 (raised CR) }
+  unfolding event
+  stops b l = rw (b, l)
+
+module _ (CR FC START END ACCUM : ℕ) where
+  -- forward: LEI is 1; the target is not past END; it is past
+  pub forward-free : flagOf LEI CR ≡ true → forward CR FC START END ACCUM ≡ record { accum = word 32 (pos ACCUM +ℤ pos FC); cr = CR }
+  unfolding forward
+  forward-free e = rw e
+
+  pub forward-within : leZ (pos ACCUM +ℤ pos FC) (pos END) ≡ true → forward CR FC START END ACCUM ≡ record { accum = word 32 (pos ACCUM +ℤ pos FC); cr = CR }
+  unfolding forward
+  forward-within t = split _ (flagOf LEI CR) (λ e. rw e) (λ e. rw (e, t))
+
+  pub forward-event : flagOf LEI CR ≡ false → leZ (pos ACCUM +ℤ pos FC) (pos END) ≡ false
+      → forward CR FC START END ACCUM
+      ≡ event CR END (pos START +ℤ (pos ACCUM +ℤ pos FC -ℤ pos END)) (pos END -ℤ (pos ACCUM +ℤ pos FC -ℤ pos END)) 1
+  unfolding forward
+  forward-event e t = rw (e, t)
+
+  -- reverse: LEI is 1; the target is not past START; it is past
+  pub reverse-free : flagOf LEI CR ≡ true → reverse CR FC START END ACCUM ≡ record { accum = word 32 (pos ACCUM -ℤ pos FC); cr = CR }
+  unfolding reverse
+  reverse-free e = rw e
+
+  pub reverse-within : ltZ (pos ACCUM -ℤ pos FC) (pos START) ≡ false → reverse CR FC START END ACCUM ≡ record { accum = word 32 (pos ACCUM -ℤ pos FC); cr = CR }
+  unfolding reverse
+  reverse-within t = split _ (flagOf LEI CR) (λ e. rw e) (λ e. rw (e, t))
+
+  pub reverse-event : flagOf LEI CR ≡ false → ltZ (pos ACCUM -ℤ pos FC) (pos START) ≡ true
+      → reverse CR FC START END ACCUM
+      ≡ event CR START (pos END -ℤ (pos START -ℤ (pos ACCUM -ℤ pos FC))) (pos START +ℤ (pos START -ℤ (pos ACCUM -ℤ pos FC))) 0
+  unfolding reverse
+  reverse-event e t = rw (e, t)
+
+  pub steps-back : flagOf DIR CR ≡ true → stepped CR FC START END ACCUM ≡ reverse CR FC START END ACCUM
+  unfolding stepped
+  steps-back t = rw t
+
+  pub steps-on : flagOf DIR CR ≡ false → stepped CR FC START END ACCUM ≡ forward CR FC START END ACCUM
+  unfolding stepped
+  steps-on t = rw t
+
+-- two places are one where both parts are
+pub same-place : {a b c d : ℕ} → a ≡ b → c ≡ d → _≡_ {A = Place} (record { accum = a; cr = c }) (record { accum = b; cr = d })
+same-place p q = λ i. record { accum = p i; cr = q i }

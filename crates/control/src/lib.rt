@@ -1,0 +1,66 @@
+// The control register of a voice: its bits by number, one read, one put, and its fields.
+// A bit's number is a literal wherever these are called, so the compiler leaves one test or one mask of each.
+ghost use mathlib.Core.Path.{_≡_};
+ghost use Prim.Native.Nat.{_<_, _≤_};
+ghost use Rattle.control.specs.Control.{flagOf, withBit, channelOf, bankOf, runs};
+
+pub const STP0: u32 = 0;
+
+pub const STP1: u32 = 1;
+
+pub const LEI: u32 = 2;
+
+pub const LPE: u32 = 3;
+
+pub const BLE: u32 = 4;
+
+pub const IRQE: u32 = 5;
+
+pub const DIR: u32 = 6;
+
+pub const IRQ: u32 = 7;
+
+pub const LP3: u32 = 8;
+
+pub const LP4: u32 = 9;
+
+pub const CMPD: u32 = 13;
+
+// Whether bit n of the word is 1.
+pub fn flag(n: u32, w: u32) -> bool
+    requires { ⌜ n < 16 ⌝ }
+    ensures { λ r. ⌜ r ≡ flagOf n w ⌝ }
+{
+    (w >> n) % 2 == 1
+}
+
+// The word with bit n put to b.
+pub fn with_bit(n: u32, b: u32, w: u32) -> u32
+    requires { ⌜ n < 16 ⌝ }
+    requires { ⌜ b ≤ 1 ⌝ }
+    requires { ⌜ w < 65536 ⌝ }
+    ensures { λ r. ⌜ (r ≡ withBit n b w) × (r < 65536) ⌝ }
+{
+    w - ((w >> n) % 2 << n) + (b << n)
+}
+
+// The channel that the voice is added to.
+pub fn channel(w: u32) -> u32
+    ensures { λ r. ⌜ (r ≡ channelOf w) × (r < 8) ⌝ }
+{
+    w / 1024 % 8
+}
+
+// The bank of sample memory that the voice reads.
+pub fn bank(w: u32) -> u32
+    ensures { λ r. ⌜ (r ≡ bankOf w) × (r < 4) ⌝ }
+{
+    w / 16384 % 4
+}
+
+// Whether the voice runs.
+pub fn running(w: u32) -> bool
+    ensures { λ r. ⌜ r ≡ runs w ⌝ }
+{
+    w % 4 == 0
+}

@@ -1,0 +1,42 @@
+-- What stands between two samples of 16 bits has 18. Then what a word stands for, by the bit that says how. Assumes nothing.
+use mathlib.Core.Path.{_≡_, sym, ap, subst, _∙_}
+use mathlib.Core.Bool.{true, false}
+use Prim.Native.Nat.{ℕ, _+_, _-_, _*_, _/_, _<_, _≤_}
+use native.Mathlib.Nat.{mul-le-mul-left, mul-le-mul-right, le-of-lt}
+use native.Mathlib.Omega.{arith}
+use lib.Dec.{lit<}
+use lib.IntN.{ℤ, pos, _+ℤ_, _-ℤ_, _*ℤ_}
+use Rattle.numbers.specs.Numbers.{floorDiv, signed, Bits}
+use Rattle.numbers.proofs.Difference.{_⊖_, ⊖-eq, ⊖-add, ⊖-sub, ⊖-mul}
+use Rattle.numbers.proofs.Words.{biased, bits-⊖, floor-up}
+use Rattle.codes.specs.Codes.{valueOf}
+use Rattle.control.specs.Control.{flagOf, CMPD}
+use Rattle.sample.specs.Sample.{sampleOf, between}
+
+pub between-bits : (f : ℕ) (x y : ℤ) → f < 512 → Bits 16 x → Bits 16 y → Bits 18 (between f x y)
+unfolding between
+between-bits f x y hf hx hy =
+    let a = biased 32768 x (hx .bits) in
+    let b = biased 32768 y (hy .bits) in
+    let p = a .0 in
+    let q = b .0 in
+    let hp : p < 65536 = a .1 in
+    let hq : q < 65536 = b .1 in
+    let e = 65535 - p in
+    let m₁ : f * p ≤ 512 * p = mul-le-mul-right p (le-of-lt hf) in
+    let m₂ : f * q ≤ f * 65535 = mul-le-mul-left f (omega arith) in
+    let m₃ : f * e ≤ 512 * e = mul-le-mul-right e (le-of-lt hf) in
+    let m₄ : f * (e + p) ≡ f * 65535 = ap (λ (x : ℕ). f * x) (omega arith) in
+    let t = (f * q + (262144 * 128 - f * p)) / 128 in
+    let d : (q ⊖ 32768) -ℤ (p ⊖ 32768) ≡ q ⊖ p = ⊖-sub q 32768 p 32768 ∙ ⊖-eq (q + 32768) (32768 + p) q p (omega arith) in
+    let g : floorDiv (pos f *ℤ ((q ⊖ 32768) -ℤ (p ⊖ 32768))) 128 ≡ t ⊖ 262144 = ap (λ (z : ℤ). floorDiv (pos f *ℤ z) 128) d ∙ ap (λ (z : ℤ). floorDiv z 128) (⊖-mul f q p) ∙ floor-up (f * q) (f * p) 262144 128 (lit< tt) (omega arith) in
+    subst (Bits 18) (sym ((λ i. between f ((a .2) i) ((b .2) i)) ∙ (λ i. ⊖-mul 4 p 32768 i +ℤ g i) ∙ ⊖-add (4 * p) (4 * 32768) t 262144))
+    (bits-⊖ 18 (4 * p + t) (4 * 32768 + 262144) (omega arith) (omega arith))
+
+pub compressed-word : (CR w : ℕ) → flagOf CMPD CR ≡ true → sampleOf CR w ≡ valueOf (w / 256)
+unfolding sampleOf
+compressed-word CR w t = rw t
+
+pub linear-word : (CR w : ℕ) → flagOf CMPD CR ≡ false → sampleOf CR w ≡ signed 16 w
+unfolding sampleOf
+linear-word CR w t = rw t

@@ -1,0 +1,41 @@
+-- The sample of a voice: the two words that it fetches from sample memory, what they stand for, and the value between them.
+-- Assumes nothing.
+use Prim.Native.Nat.{ℕ, _+_, _*_, _/_, _%_}
+use mathlib.Core.Bool.{cond}
+use mathlib.Core.List.{List}
+use lib.IntN.{ℤ, pos, _+ℤ_, _-ℤ_, _*ℤ_}
+use lib.ListN.{getD}
+use Rattle.numbers.specs.Numbers.{floorDiv, signed}
+use Rattle.codes.specs.Codes.{valueOf}
+use Rattle.control.specs.Control.{flagOf, bankOf, CMPD}
+use Rattle.sample.specs.declared.Samples.{Samples}
+
+-- a word of the lent memory; one beyond it is 0
+abbrev pub wordAt : List ℕ → ℕ → ℕ
+wordAt memory i = getD memory i 0
+
+-- the words of the first and of the second sample: one at ACCUM's whole part, in the voice's bank, and the next, which wraps within
+-- the bank
+unfoldable pub firstAt : ℕ → ℕ → ℕ
+firstAt CR ACCUM = bankOf CR * 2097152 + ACCUM / 2048
+
+unfoldable pub secondAt : ℕ → ℕ → ℕ
+secondAt CR ACCUM = bankOf CR * 2097152 + (ACCUM / 2048 + 1) % 2097152
+
+-- what a word stands for: a sample of 16 bits, or where CMPD is 1 the value of the code in its high byte
+unfoldable pub sampleOf : ℕ → ℕ → ℤ
+sampleOf CR w = cond (flagOf CMPD CR) (valueOf (w / 256)) (signed 16 w)
+
+unfoldable pub fetched : List ℕ → ℕ → ℕ → Samples
+fetched memory CR ACCUM = record {
+  first = sampleOf CR (wordAt memory (firstAt CR ACCUM));
+  second = sampleOf CR (wordAt memory (secondAt CR ACCUM));
+}
+
+-- F: ACCUM's nine upper fractional bits
+unfoldable pub fraction : ℕ → ℕ
+fraction ACCUM = ACCUM % 2048 / 4
+
+-- X = 4 * S1 + F * (S2 - S1) / 128
+unfoldable pub between : ℕ → ℤ → ℤ → ℤ
+between F s₁ s₂ = pos 4 *ℤ s₁ +ℤ floorDiv (pos F *ℤ (s₂ -ℤ s₁)) 128
