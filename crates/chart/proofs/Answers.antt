@@ -6,7 +6,6 @@ use Prim.Native.Nat.{ℕ, _*_, _≤_}
 use native.Mathlib.Omega.{arith}
 use lib.Dec.{ltb}
 use lib.ListN.{length, drop, length-append, length-drop}
-use Rattle.chart.specs.declared.Charted.{Charted}
 use Rattle.chart.specs.declared.Charted.the-variants.{Written, NoRoom}
 use Rattle.chart.specs.Chart.{chartOf, answerOf, outputOf}
 

@@ -15,7 +15,7 @@ use Rattle.numbers.proofs.Within.{of-bits, of-sfits}
 use Rattle.numbers.proofs.Words.{signed-bits}
 use Rattle.codes.specs.Codes.{valueOf, codeOf}
 use Rattle.codes.proofs.Samples.{codeOf-compressed}
-use Rattle.codes.proofs.Values.{value-fits}
+use Rattle.codes.proofs.Range.{value-fits}
 use Rattle.chart.specs.Chart.{number, line, oddByte, lines}
 use Rattle.chart.proofs.Decimals.{decimal-length, number-length}
 

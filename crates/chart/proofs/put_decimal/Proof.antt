@@ -1,11 +1,8 @@
 -- `chart::put_decimal` meets its contract: the digits that `io` makes are the number's decimal. Assumes nothing.
-use mathlib.Core.Path.{_≡_, ap, _∙_}
-use mathlib.Core.List.{List}
-use Prim.Native.Nat.{ℕ, _+_}
+use mathlib.Core.Path.{_≡_, _∙_}
 use native.Mathlib.Omega.{arith}
 use borrow.Author.Needs.{needs}
-use lib.ListN.{length, take}
-use lib.Seq.{sets}
+use lib.ListN.{take}
 use Rattle.chart.specs.Chart.{decimal}
 use Rattle.chart.proofs.Decimals.{decimal-digits, decimal-length}
 use Rattle.chart.proofs.put_decimal.Statement.{statement}

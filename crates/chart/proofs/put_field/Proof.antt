@@ -1,5 +1,5 @@
 -- `chart::put_field` meets its contract: a number takes at most six bytes, and its end stands after it. Assumes nothing.
-use mathlib.Core.Path.{_≡_, ap}
+use mathlib.Core.Path.{ap}
 use mathlib.Core.List.{_++_}
 use native.Mathlib.Omega.{arith}
 use borrow.Author.Needs.{needs}

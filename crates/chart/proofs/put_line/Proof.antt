@@ -1,32 +1,27 @@
 -- `chart::put_line` meets its contract: the sample, its code and the code's value are the numbers of the line, and each field leaves
 -- room for those after it. Assumes nothing.
 use mathlib.Core.Path.{_≡_, sym, ap, subst, _∙_}
-use mathlib.Core.List.{List, [], _∷_, _++_}
-use Prim.Native.Nat.{ℕ, _+_, _*_, _<_, _≤_}
+use mathlib.Core.List.{_++_}
+use Prim.Native.Nat.{_+_, _*_, _≤_}
 use native.Mathlib.Omega.{arith}
 use borrow.Author.Needs.{needs}
-use lib.Dec.{T, leb}
 use lib.IntN.{ℤ, pos}
 use lib.ListN.{length, length-append}
 use mir.Syntax.{w16, w32}
 use mir.Val.{SFits, toZ, ofZ}
 use mir.Facts.{toZ-ofZ}
-use Rattle.numbers.specs.Numbers.{signed, Bits, Within}
-use Rattle.numbers.proofs.Within.{widen, of-bits, of-sfits}
+use Rattle.numbers.specs.Numbers.{signed, Bits}
+use Rattle.numbers.proofs.Within.{of-bits, of-sfits}
 use Rattle.numbers.proofs.Words.{signed-bits}
-use Rattle.numbers.proofs.Local.{Num, Done, ret, nat, cast}
+use Rattle.numbers.proofs.Local.{Num, Done, ret, nat, cast, within}
 use Rattle.codes.specs.Codes.{valueOf, codeOf, Compressed}
 use Rattle.codes.proofs.Samples.{compressed-is}
-use Rattle.codes.proofs.Values.{value-fits}
-use Rattle.chart.specs.Chart.{number, Stored}
+use Rattle.codes.proofs.Range.{value-fits}
+use Rattle.chart.specs.Chart.{Stored}
 use Rattle.chart.proofs.Stores.{then, reads-as, room}
 use Rattle.chart.proofs.Lines.{sample-low, sample-length, code-small, code-length, field, line-fields}
 use Rattle.chart.proofs.put_line.Statement.{statement}
 use Rattle.chart.proofs.put_line.Tie as tie
-
--- what a field asks of its number
-within : {n : ℕ} {z v : ℤ} → Num w32 n z v → T (leb n 99999) → Within 99999 v
-within a t = subst (Within 99999) (sym (a .is)) (widen t (a .size))
 
 -- ---- the numbers
 
@@ -91,12 +86,12 @@ pub put-line-spec : {M : Type 1} → statement M
 put-line-spec =
     tie.close
     (tie.spec (λ c. search needs) (λ c. search needs) (λ c κs. search needs) sample-fits (λ c κs. search needs) (λ c. search needs)
-    (λ c κs. (within (sample (c .before .before .before)) tt, omega arith))
+    (λ c κs. (within tt (sample (c .before .before .before)), omega arith))
     (λ c. search needs) (λ c. search needs)
-    (λ c κs. (within (nat w32 255 (c .before .before .before .before .before .before .before .compress .result) tt (omega arith)) tt, omega (arith, first-room (c .before .before .before .before))))
+    (λ c κs. (within tt (nat w32 255 (c .before .before .before .before .before .before .before .compress .result) tt (omega arith)), omega (arith, first-room (c .before .before .before .before))))
     (λ c κs. search needs)
     (λ c. value c .asks)
     (λ c. search needs)
-    (λ c κs. (within (value (c .before) .num) tt, omega (arith, two-room (c .before .before .before .before .before))))
+    (λ c κs. (within tt (value (c .before) .num), omega (arith, two-room (c .before .before .before .before .before))))
     (λ c. search needs)
     returns)

@@ -1,7 +1,7 @@
 -- `chart::put_number` meets its contract, by the number's sign. Assumes nothing.
-use mathlib.Core.Path.{_≡_, refl, sym, ap, subst, _∙_}
+use mathlib.Core.Path.{_≡_, refl, ap, subst, _∙_}
 use mathlib.Core.Bool.{true, false}
-use mathlib.Core.List.{List, _∷_}
+use mathlib.Core.List.{_∷_}
 use Prim.Native.Nat.{ℕ, suc, _<_}
 use native.Mathlib.Nat.{zero-add, not-suc-le-zero}
 use native.Mathlib.Omega.{arith}
@@ -11,9 +11,7 @@ use lib.Dec.{T}
 use lib.IntN.{ℤ, pos, negsuc, natAbs, _-ℤ_}
 use lib.Signed.{ltZ, nonNeg}
 use mir.Syntax.{w32}
-use mir.Val.{toZ, ofZ, SFits}
-use Rattle.numbers.specs.Numbers.{Within}
-use Rattle.numbers.proofs.Words.{natural}
+use mir.Val.{toZ, ofZ}
 use Rattle.numbers.proofs.Local.{Num, Done, arg, lit, sub, test, as-nat}
 use Rattle.chart.specs.Chart.{decimal, number}
 use Rattle.chart.proofs.Stores.{then, reads-as}
