@@ -9,6 +9,7 @@ use lib.ListN.{length, drop, length-append, length-drop}
 use Rattle.chart.specs.declared.Charted.the-variants.{Written, NoRoom}
 use Rattle.chart.specs.Chart.{chartOf, answerOf, outputOf}
 
+-- by the test for room: an output that keeps its length has all of the chart in it
 by-test : (b : Bool) (t out out′ : List ℕ) (k : ℕ) → cond b NoRoom (Written (length t)) ≡ Written k → out′ ≡ cond b out (t ++ drop (length t) out) → length out′ ≡ length out → k ≤ length out′
 by-test true t out out′ k e f l = absurd (let z : _≡_ {A = ℕ} 0 1 = cc in let n : ⊥ = omega arith in n)
 by-test false t out out′ k e f l =
