@@ -1,12 +1,14 @@
 -- The code chart: the bytes of the text that the chart program writes for the bytes of its input, in ASCII.
--- In order: a number in decimal; the line of a sample; the lines of an input; the chart; and what a call that is lent an output
--- answers and leaves there. Assumes nothing.
+-- In order: a number in decimal; the line of a sample; the lines of an input; the chart; what a call that is lent an output
+-- answers and leaves there; and what the steps on the way promise each other. Assumes nothing.
 use Prim.Native.Nat.{ℕ, zero, suc, _+_, _*_, _/_, _%_}
+use mathlib.Core.Path.{_≡_}
 use mathlib.Core.Bool.{cond}
 use mathlib.Core.List.{List, [], _∷_, _++_}
 use lib.Dec.{ltb}
 use lib.IntN.{ℤ, pos, negsuc}
 use lib.ListN.{length, drop}
+use lib.Seq.{sets}
 use Rattle.numbers.specs.Numbers.{signed}
 use Rattle.codes.specs.Codes.{valueOf, codeOf}
 use Rattle.chart.specs.declared.Charted.{Charted}
@@ -57,3 +59,8 @@ answerOf input out = cond (ltb (length out) (9 * length input)) NoRoom (Written 
 -- the output afterwards: the chart, and past it what stood there
 unfoldable pub outputOf : List ℕ → List ℕ → List ℕ
 outputOf input out = cond (ltb (length out) (9 * length input)) out (chartOf input ++ drop (length (chartOf input)) out)
+
+-- out′ is out with the text stored from `at` on, and r the place after it
+pub record Stored (out : List ℕ) (at : ℕ) (text : List ℕ) (out′ : List ℕ) (r : ℕ) : Type 0 where
+  pub after : r ≡ at + length text
+  pub stored : out′ ≡ sets out at text

@@ -1,4 +1,4 @@
-// The code chart program, run on the bytes of the manual's loudest samples and silence.
+// The code chart program, run on the loudest sample, silence and the lowest sample.
 fn main() {
     chart_io::run();
 }

@@ -25,6 +25,12 @@ below c = complement (c .before .args .sample) (test (wide (c .before .fits .sam
 above : (c : tie.Else1) → T (nonNeg (c .before .args .sample)) × (natAbs (c .before .args .sample) ≡ mag (c .before .args .sample))
 above c = natural (c .before .args .sample) (test (wide (c .before .fits .sample)) (lit (pos 0)) (c .if1 .left))
 
+returns : tie.Need-returns
+returns c = answer _ _ (c .before .fits .sample) (ap natAbs (sub (lit (negsuc 0)) (wide (c .before .fits .sample)) tt .num .is) ∙ below c .1)
+
+returns-2 : tie.Need-returns-2
+returns-2 c = answer _ _ (c .before .fits .sample) (ap natAbs (wide (c .before .fits .sample) .is) ∙ above c .1)
+
 pub magnitude-spec : {M : Type 1} → statement M
 magnitude-spec =
     tie.close
@@ -33,5 +39,5 @@ magnitude-spec =
     (λ c. sub (lit (negsuc 0)) (wide (c .before .fits .sample)) tt .asks)
     (λ c. as-nat (sub (lit (negsuc 0)) (wide (c .before .fits .sample)) tt .num) tt (below c .0))
     (λ c. as-nat (wide (c .before .fits .sample)) tt (above c .0))
-    (λ c. answer _ _ (c .before .fits .sample) (ap natAbs (sub (lit (negsuc 0)) (wide (c .before .fits .sample)) tt .num .is) ∙ below c .1))
-    (λ c. answer _ _ (c .before .fits .sample) (ap natAbs (wide (c .before .fits .sample) .is) ∙ above c .1)))
+    returns
+    returns-2)

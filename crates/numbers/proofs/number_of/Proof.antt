@@ -40,6 +40,9 @@ less n w h e l = rw (e .is)
     rw (m, signed-bias n w (e .wide) l, ← pos-sub ((w + 2 ^ (n - 1)) % 2 ^ n) (2 ^ (n - 1)))
     (sub (nat w32 16777216 ((w + 2 ^ (n - 1)) % 2 ^ n) tt (omega arith)) (nat w32 8388608 (2 ^ (n - 1)) tt (e .small)) tt))
 
+returns : tie.Need-returns
+returns c = less _ _ _ (half (c .args .n) (c .pre .0)) (c .pre .1) .num .is
+
 sum : tie.Need-add-result
 sum c = omega (arith, half (c .args .n) (c .pre .0))
 
@@ -63,4 +66,4 @@ number-of-spec =
     tie.close
     (tie.spec (λ c. search needs) (λ c. search needs) sum twice not-zero wrapped halved
     (λ c. less _ _ _ (half (c .args .n) (c .pre .0)) (c .pre .1) .asks)
-    (λ c. less _ _ _ (half (c .args .n) (c .pre .0)) (c .pre .1) .num .is))
+    returns)

@@ -22,15 +22,15 @@ moved n z h k =
     let e = up n h in
     ap (λ (u : ℕ). natAbs (z +ℤ pos u) % 2 ^ n) e ∙ word-up n (2 ^ (29 - n)) z (subst (λ (u : ℕ). Within u z) e k)
 
-not-zero : tie.Need-rem-result
-not-zero c = rw (bit-at (c .args .n) (c .pre .0)) (pow-pos (c .args .n))
-
 returns : tie.Need-returns
 returns c =
     let n = c .args .n in
     let sum = add (arg (c .fits .z) (c .pre .1)) (lit (pos 536870912)) tt in
     let is = ap (λ (z : ℤ). natAbs z % 2 ^ n) (sum .num .is) ∙ moved n (c .args .z) (c .pre .0) (c .pre .1) in
     rw (bit-at n (c .pre .0)) (is, subst (λ (w : ℕ). w < 2 ^ n) (sym is) (word-lt n (c .args .z)))
+
+not-zero : tie.Need-rem-result
+not-zero c = rw (bit-at (c .args .n) (c .pre .0)) (pow-pos (c .args .n))
 
 pub word-of-spec : {M : Type 1} → statement M
 word-of-spec =

@@ -1,0 +1,4 @@
+// The chart of no input.
+fn main() {
+    chart_io::run();
+}

@@ -1,0 +1,4 @@
+// The chart of one byte alone.
+fn main() {
+    chart_io::run();
+}

@@ -1,0 +1,4 @@
+// The chart of two pairs and one byte more.
+fn main() {
+    chart_io::run();
+}
