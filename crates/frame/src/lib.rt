@@ -11,7 +11,7 @@ ghost use Rattle.channel.specs.Channel.{putOut};
 ghost use Rattle.machine.specs.Words.{valid};
 ghost use Rattle.voice.specs.Ranges.{Ranges};
 ghost use Rattle.frame.specs.Voices.{voiceOf, wordsOf};
-ghost use Rattle.frame.specs.Frame.{summed, added, signalled, turnAt, played, heard, closed, Frames};
+ghost use Rattle.frame.specs.Frame.{summed, added, signalled, turnAt, played, heard, closed, frameAnswer, Frames};
 ghost use Rattle.frame.specs.Speaks.{Speaks};
 use answer::Answer;
 use voice::Voice;
@@ -28,6 +28,19 @@ struct Said {
 pub fn frame(m: &mut [u32], memory: &[u16], out: &mut [i32]) -> Answer
     ensures { λ r. ⌜ Frames (now (m .entry)) (now (memory .entry)) (now (out .entry)) r (now (m .exit)) (now (out .exit)) ⌝ }
 {
+    let a = refusal(m, memory, out);
+    let Answer::Done = a else {
+        return a;
+    };
+    play(m, memory);
+    close(m, out);
+    Answer::Done
+}
+
+// Why a frame is refused: the record asked first, then the memory, then the output; Done where it is not.
+fn refusal(m: &[u32], memory: &[u16], out: &[i32]) -> Answer
+    ensures { λ r. ⌜ r ≡ frameAnswer (now (m .entry)) (now (memory .entry)) (now (out .entry)) ⌝ }
+{
     let a = machine::check(m);
     let Answer::Done = a else {
         return a;
@@ -38,8 +51,6 @@ pub fn frame(m: &mut [u32], memory: &[u16], out: &mut [i32]) -> Answer
     if out.len() != 12 {
         return Answer::Output;
     }
-    play(m, memory);
-    close(m, out);
     Answer::Done
 }
 

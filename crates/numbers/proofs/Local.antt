@@ -36,6 +36,10 @@ arg f h = record { is = toZ-ofZ f; size = h }
 pub held : (w : Width) {n : ℕ} {z : ℤ} → T (ltb (2 ^ (n - 1)) (2 ^ hbits w)) → Bits n z → Num w (2 ^ (n - 1)) z (toZ w (ofZ w z))
 held w t h = arg (W.fits t (of-bits h)) (of-bits h)
 
+-- a parameter, or a field of one, that is within n
+pub ranged : (w : Width) {n : ℕ} {z : ℤ} → T (ltb n (2 ^ hbits w)) → Within n z → Num w n z (toZ w (ofZ w z))
+ranged w t h = arg (W.fits t h) h
+
 -- a parameter of which nothing more is known
 pub any : {w : Width} {z : ℤ} → SFits w z → Num w (2 ^ hbits w) z (toZ w (ofZ w z))
 any f = arg f (W.of-sfits f)

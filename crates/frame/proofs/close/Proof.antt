@@ -1,83 +1,47 @@
+-- `frame::close` meets its contract: the sums go out, the part that held them is 0, and the counter goes on. Assumes nothing.
+use mathlib.Core.Path.{_≡_, refl, sym, ap, subst, _∙_}
+use mathlib.Core.List.{List}
+use Prim.Native.Nat.{ℕ, _+_, _<_}
+use native.Mathlib.Omega.{arith}
 use borrow.Author.Needs.{needs}
+use lib.ListN.{length, getD, take, drop, length-take, length-drop}
+use lib.Seq.{getD-take, getD-drop}
+use Rattle.frame.specs.Frame.{closed, silenced, heard}
 use Rattle.frame.proofs.close.Statement.{statement}
 use Rattle.frame.proofs.close.Tie as tie
-use Rattle.frame.proofs.close.Reads as reads
-use Rattle.frame.proofs.close.Lts as lts
-use Rattle.frame.proofs.clear.Reads as clear-reads
-use Rattle.frame.proofs.next.Reads as next-reads
-use Rattle.frame.proofs.put_out.Reads as put-out-reads
 
--- src/lib.rt:204:13
-sub-put-out : tie.Need-sub-put-out
-sub-put-out c = search needs
+twelve : (m : List ℕ) → length m ≡ 663 → length (take 12 (drop 651 m)) ≡ 12
+twelve m h = simp (length-take, length-drop) (omega arith)
 
--- src/lib.rt:204:13
-part-put-out-start : tie.Need-part-put-out-start
-part-put-out-start c = search needs
+small : (m : List ℕ) → length m ≡ 663 → ((i : ℕ) → i < 12 → getD m (651 + i) 0 < 8388608) → (i : ℕ) → i < length (take 12 (drop 651 m)) → getD (take 12 (drop 651 m)) i 0 < 8388608
+small m h f i k = let l : i < 12 = omega (arith, twelve m h) in rw (getD-take 12 (drop 651 m) i 0 l, getD-drop 651 m i 0) (f i l)
 
--- src/lib.rt:204:13
-part-put-out-end : tie.Need-part-put-out-end
-part-put-out-end c = search needs
-
--- src/lib.rt:204:5
 put-out-requires : tie.Need-put-out-requires
-put-out-requires c κs = ?
+put-out-requires c κs =
+    let s = c .before .before .before .before in
+    (twelve (s .args .m .now) (s .pre .0) ∙ sym (s .pre .1 .1), small (s .args .m .now) (s .pre .0) (s .pre .1 .0))
 
--- src/lib.rt:205:11
-sub-clear : tie.Need-sub-clear
-sub-clear c = search needs
-
--- src/lib.rt:205:11
-part-clear-start : tie.Need-part-clear-start
-part-clear-start c = search needs
-
--- src/lib.rt:205:11
-part-clear-end : tie.Need-part-clear-end
-part-clear-end c = search needs
-
--- src/lib.rt:205:5
-clear-requires : tie.Need-clear-requires
-clear-requires c κs = search needs
-
--- src/lib.rt:206:16
-slice-read-slow : tie.Need-slice-read-slow
-slice-read-slow c = search needs
-
--- src/lib.rt:207:24
-next-requires : tie.Need-next-requires
-next-requires c κs = search needs
-
--- src/lib.rt:207:5
-slice-write-m : tie.Need-slice-write-m
-slice-write-m c = search needs
-
--- src/lib.rt:198:1
-same-length : tie.Need-same-length
-same-length c = search needs
-
--- src/lib.rt:198:1
-same-length-2 : tie.Need-same-length-2
-same-length-2 c = search needs
-
--- src/lib.rt:198:1
 returns : tie.Need-returns
-returns c = ?
+unfolding closed silenced heard
+returns c =
+    let s = c .before .before .before .before .before .before .before .before .before .before .before .before in
+    rw (c .next .ensures, c .before .before .before .before .clear .ensures, twelve (s .args .m .now) (s .pre .0)) (refl, c .before .before .before .before .before .before .before .put-out .ensures)
 
 pub close-spec : {M : Type 1} → statement M
 close-spec =
     tie.close
     (tie.spec
-    sub-put-out
-    part-put-out-start
-    part-put-out-end
+    (λ c. search needs)
+    (λ c. search needs)
+    (λ c. search needs)
     put-out-requires
-    sub-clear
-    part-clear-start
-    part-clear-end
-    clear-requires
-    slice-read-slow
-    next-requires
-    slice-write-m
-    same-length
-    same-length-2
+    (λ c. search needs)
+    (λ c. search needs)
+    (λ c. search needs)
+    (λ c κs. search needs)
+    (λ c. search needs)
+    (λ c κs. search needs)
+    (λ c. search needs)
+    (λ c. search needs)
+    (λ c. search needs)
     returns)

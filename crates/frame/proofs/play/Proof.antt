@@ -1,56 +1,79 @@
+-- `frame::play` meets its contract. The loop's invariant: the record is what the turns so far make of the first, and so is valid.
+-- Assumes nothing.
+use mathlib.Core.Path.{_≡_, refl, sym, ap, subst, _∙_}
+use mathlib.Core.Bool.{true}
+use mathlib.Core.List.{List}
+use Prim.Native.Nat.{ℕ, _+_, _-_, _≤_, _<_}
+use native.Mathlib.Numerals.{add-one}
+use native.Mathlib.Omega.{arith}
+use borrow.Author.Needs.{needs}
+use denote.Ref.{now}
+use lib.ListN.{length, getD}
+use Rattle.codes.specs.Codes.{Expands}
+use Rattle.machine.specs.Words.{valid}
+use Rattle.machine.proofs.Valid.{Sound, sound, is-valid}
+use Rattle.frame.specs.Frame.{turnAt, turns, played}
+use Rattle.frame.proofs.Keeps.{active-le, sound-turns}
 use Rattle.frame.proofs.play.Statement.{statement}
 use Rattle.frame.proofs.play.Tie as tie
-use Rattle.frame.proofs.play.Reads as reads
-use Rattle.frame.proofs.play.Lts as lts
-use Rattle.codes.proofs.values.Reads as values-reads
-use Rattle.frame.proofs.count.Reads as count-reads
-use Rattle.frame.proofs.turn.Reads as turn-reads
 
 abbrev Inv-loop : tie.InvT-loop
-Inv-loop m₀ memory table last n v₀ m v = ?
+Inv-loop m₀ memory table last n v₀ m v =
+    Sound m₀ × (Expands table × ((n ≡ getD m₀ 643 0 + 1) × ((n ≤ 32) × ((v ≤ n) × (m ≡ turns memory v m₀)))))
 
 abbrev μ-loop : tie.MeasureT-loop
-μ-loop m₀ memory table last n v₀ m v = ?
+μ-loop m₀ memory table last n v₀ m v = n - v
 
--- src/lib.rt:51:17
-values-requires : tie.Need-values-requires Inv-loop μ-loop
-values-requires c κs = ?
-
--- src/lib.rt:52:16
-slice-read-last : tie.Need-slice-read-last Inv-loop μ-loop
-slice-read-last c = ?
-
--- src/lib.rt:53:9
-count-requires : tie.Need-count-requires Inv-loop μ-loop
-count-requires c κs = ?
-
--- src/lib.rt:54:5
 loop-holds : tie.Need-loop-holds Inv-loop μ-loop
-loop-holds c = ?
+unfolding turns
+loop-holds c =
+    let s = c .before .before .before .before .before in
+    let r = sound (s .args .m .now) (s .pre) in
+    (r, (c .before .before .values .ensures, (c .count .ensures, (omega (arith, c .count .ensures, active-le (s .args .m .now) r), (omega arith, refl)))))
 
--- src/lib.rt:55:9
 turn-requires : tie.Need-turn-requires Inv-loop μ-loop
-turn-requires c κs = ?
+turn-requires c κs =
+    let l = c .before .before .before .loop in
+    let i = l .inv in (
+      subst (λ (x : List ℕ). valid x ≡ true) (sym (i .1 .1 .1 .1 .1)) (is-valid _ (sound-turns (now (c .before .before .before .before .before .before .before .before .before .args .memory)) (l .v) (i .0) (omega arith))),
+      (omega arith, i .1 .0),
+    )
 
--- src/lib.rt:54:9
-add-v : tie.Need-add-v Inv-loop μ-loop
-add-v c = ?
-
--- src/lib.rt:54:5
-loop-less : tie.Need-loop-less Inv-loop μ-loop
-loop-less c = ?
-
--- src/lib.rt:54:5
 loop-again : tie.Need-loop-again Inv-loop μ-loop
-loop-again c = ?
+unfolding turns
+loop-again c =
+    let l = c .before .before .before .before .before .before .loop in
+    let s = c .before .before .before .before .before .before .before .before .before .before .before .before in
+    let i = l .inv in (
+      i .0,
+      (
+        i .1 .0,
+        (
+          i .1 .1 .0,
+          (
+            i .1 .1 .1 .0,
+            (omega arith, rw add-one (c .before .before .turn .ensures ∙ ap (turnAt (now (s .args .memory)) (l .v)) (i .1 .1 .1 .1 .1))),
+          ),
+        ),
+      ),
+    )
 
--- src/lib.rt:47:1
+-- the record after the turns so far has as many words as the first
 same-length : tie.Need-same-length Inv-loop μ-loop
-same-length c = ?
+same-length c =
+    let l = c .before .loop in
+    let s = c .before .before .before .before .before .before .before in
+    let i = l .inv in
+    ap length (i .1 .1 .1 .1 .1) ∙ sound-turns (now (s .args .memory)) (l .v) (i .0) (omega arith) .size ∙ sym (i .0 .size)
 
--- src/lib.rt:47:1
 returns : tie.Need-returns Inv-loop μ-loop
-returns c = ?
+unfolding played
+returns c =
+    let l = c .before .loop in
+    let s = c .before .before .before .before .before .before .before in
+    let i = l .inv in
+    let e : l .v ≡ getD (s .args .m .now) 643 0 + 1 = omega (arith, i .1 .1 .0, i .1 .1 .1 .1 .0, c .loop-test .left) in
+    i .1 .1 .1 .1 .1 ∙ ap (λ (k : ℕ). turns (now (s .args .memory)) k (s .args .m .now)) e
 
 pub play-spec : {M : Type 1} → statement M
 play-spec =
@@ -58,13 +81,13 @@ play-spec =
     (tie.spec
     Inv-loop
     μ-loop
-    values-requires
-    slice-read-last
-    count-requires
+    (λ c κs. search needs)
+    (λ c. omega (arith, sound (c .before .before .before .before .args .m .now) (c .before .before .before .before .pre) .size))
+    (λ c κs. search needs)
     loop-holds
     turn-requires
-    add-v
-    loop-less
+    (λ c. omega arith)
+    (λ c. omega arith)
     loop-again
     same-length
     returns)

@@ -1,0 +1,29 @@
+-- `frame::refusal` meets its contract: the record refused, the memory, the output, and none. Assumes nothing.
+use mathlib.Core.Path.{_≡_, sym, ap, _∙_}
+use borrow.Author.Needs.{needs}
+use Rattle.answer.specs.Answer.{isDone}
+use Rattle.answer.specs.declared.Answer.the-variants.{Done}
+use Rattle.answer.proofs.Refusals.{is-refusal}
+use Rattle.machine.specs.Calls.{checked}
+use Rattle.frame.proofs.Calls.{refused-record, refused-memory, refused-output, not-refused-frame}
+use Rattle.frame.proofs.refusal.Statement.{statement}
+use Rattle.frame.proofs.refusal.Tie as tie
+
+fine : (c : tie.After-enum-told) → checked (c .before .before .before .before .before .args .m .now) ≡ Done
+fine c = sym (c .before .before .check .ensures) ∙ c .enum-told .given .1
+
+returns : tie.Need-returns
+returns c =
+    let r = c .before .check in
+    r .ensures ∙ sym (refused-record _ _ _ (sym (ap isDone (r .ensures)) ∙ is-refusal (r .result) (c .match .keys2)))
+
+pub refusal-spec : {M : Type 1} → statement M
+refusal-spec =
+    tie.close
+    (tie.spec
+    (λ c κs. search needs)
+    (λ c. search needs)
+    returns
+    (λ c. sym (refused-memory _ _ _ (fine (c .before)) (c .if1 .taken)))
+    (λ c. sym (refused-output _ _ _ (fine (c .before .before)) (c .before .if1 .left) (c .if2 .taken)))
+    (λ c. sym (not-refused-frame _ _ _ (fine (c .before .before)) (c .before .if1 .left) (c .if2 .left))))
