@@ -1,0 +1,4 @@
+pub mod Laws
+pub mod Tight
+pub mod Inside
+pub mod Valid
