@@ -1,12 +1,10 @@
 -- What a page and a register number name is a word of the record and not the vector, or has no word. Assumes nothing.
 use mathlib.Core.Path.{_≡_}
-use mathlib.Core.Bool.{true, false}
 use Prim.Native.Nat.{ℕ, _+_, _-_, _*_, _<_}
 use native.Mathlib.Omega.{arith}
 use lib.Dec.{eqb, ltb}
 use borrow.Author.Tests.{eqb-false, ltb-true, ltb-false}
 use Rattle.numbers.proofs.Tests.{either}
-use Rattle.registers.specs.declared.Register.{Register}
 use Rattle.registers.specs.Registers.{registerOf, lowPage, highPage, sumPage}
 use Rattle.registers.specs.Inside.{Inside}
 

@@ -1,7 +1,7 @@
 -- What each call answers and leaves, by the way that it ends: the record refused, the number refused, done.
 -- In order: the answer, of any call that asks the record and then one number; the promise of each call from its way. Assumes nothing.
-use mathlib.Core.Path.{_≡_, refl, sym, ap, _∙_}
-use mathlib.Core.Bool.{true, false, cond, false≢true}
+use mathlib.Core.Path.{_≡_, sym, _∙_}
+use mathlib.Core.Bool.{true, false, false≢true}
 use mathlib.Core.List.{List}
 use Prim.Native.Nat.{ℕ, _/_, _%_, _<_, _≤_}
 use lib.Dec.{ltb}

@@ -1,9 +1,8 @@
 -- What each rule on a register leaves of a valid record is valid.
--- In order: words that are cut already; the latches; writing; reading. Assumes nothing.
-use mathlib.Core.Path.{_≡_, refl, sym, ap, _∙_}
-use mathlib.Core.Bool.{true, false}
+-- In order: words that are cut already; the latches and the pot result; writing; reading. Assumes nothing.
+use mathlib.Core.Path.{_≡_, refl, _∙_}
 use mathlib.Core.List.{List}
-use Prim.Native.Nat.{ℕ, zero, suc, _+_, _-_, _*_, _/_, _%_, _^_, _<_, _≤_}
+use Prim.Native.Nat.{ℕ, zero, suc, _-_, _^_, _<_, _≤_}
 use native.Mathlib.Nat.{mod-eq-of-lt}
 use native.Mathlib.Omega.{arith}
 use lib.Bits.{and-mask}
@@ -43,7 +42,7 @@ cr-bits v h = bits-voice v 0 h (omega arith)
 pub cr-lt : (m : List ℕ) → Sound m → (v : ℕ) → v < 32 → getD m (wordOf v 0) 0 < 65536
 cr-lt m s v h = omega (arith, word-le m s (wordOf v 0) (omega arith), cr-bits v h)
 
--- ---- the latches, which may hold any 32 bits
+-- ---- the latches, which may hold any 32 bits, and the pot result
 
 pub write-latch : {m : List ℕ} (x : ℕ) → Sound m → x < 2 ^ 32 → Sound (set m WRITE x)
 unfolding bitsOf aboveBits
@@ -52,6 +51,10 @@ write-latch x s h = sound-set WRITE x s (omega arith) (cut-low WRITE 32 x refl h
 pub read-latch : {m : List ℕ} (x : ℕ) → Sound m → x < 2 ^ 32 → Sound (set m READ x)
 unfolding bitsOf aboveBits
 read-latch x s h = sound-set READ x s (omega arith) (cut-low READ 32 x refl h) (λ (z : 650 ≡ 641). absurd (omega arith))
+
+pub pot-sound : {m : List ℕ} (p : ℕ) → Sound m → p ≤ 1023 → Sound (set m PAR p)
+unfolding bitsOf aboveBits
+pot-sound p s h = sound-set PAR p s (omega arith) (cut-low PAR 10 p refl (omega arith)) (λ (z : 642 ≡ 641). absurd (omega arith))
 
 -- ---- writing
 
@@ -111,10 +114,10 @@ acknowledged-sound m s =
     (λ _. s)
 
 touched-sound : (m : List ℕ) (register : Register) → Sound m → Sound (touched m register)
-unfolding touched bitsOf aboveBits cut
+unfolding touched
 touched-sound m (Word i) s = s
 touched-sound m (Sum i) s = s
-touched-sound m Pot s = sound-set PAR 1023 s (omega arith) refl (λ (z : 642 ≡ 641). absurd (omega arith))
+touched-sound m Pot s = pot-sound 1023 s (omega arith)
 touched-sound m Vector s = acknowledged-sound m s
 touched-sound m Nothing s = s
 

@@ -1,10 +1,9 @@
 -- `registers::acknowledge` meets its contract: a valid record's control register is a word of 16 bits, as `with_bit` asks.
 -- Assumes nothing.
-use mathlib.Core.Path.{_≡_, refl}
-use Prim.Native.Nat.{_<_, _*_, _+_}
+use Prim.Native.Nat.{_<_, _*_}
 use native.Mathlib.Nat.{add-zero}
 use native.Mathlib.Omega.{arith}
-use lib.ListN.{length, getD, length-set}
+use lib.ListN.{getD, length-set}
 use borrow.Author.Needs.{needs}
 use borrow.Author.Tests.{lt-ltb, le-ltb}
 use Rattle.machine.proofs.Valid.{Sound, sound}

@@ -1,9 +1,9 @@
 -- `registers::open` meets its contract: each arm is the definition's case, and a register in the read latch leaves the record valid, as
 -- `acknowledge` asks. Assumes nothing.
-use mathlib.Core.Path.{_≡_, subst, _∙_}
+use mathlib.Core.Path.{subst, _∙_}
 use Prim.Native.Nat.{_<_}
 use native.Mathlib.Omega.{arith}
-use lib.ListN.{length, length-set}
+use lib.ListN.{length-set}
 use borrow.Author.Needs.{needs}
 use Rattle.machine.proofs.Valid.{Sound, sound, is-valid}
 use Rattle.registers.specs.declared.Register.the-variants.{Vector}

@@ -1,6 +1,6 @@
 -- `registers::store` meets its contract: the word that an arm binds is one of the record, and each arm is the definition's case.
 -- Assumes nothing.
-use mathlib.Core.Path.{_≡_, subst}
+use mathlib.Core.Path.{subst}
 use Prim.Native.Nat.{_<_}
 use native.Mathlib.Omega.{arith}
 use borrow.Author.Needs.{needs}

@@ -1,5 +1,4 @@
 -- `registers::write_byte` meets its contract: bytes 0 to 2 go into the latch, byte 3 stores it. Assumes nothing.
-use mathlib.Core.Path.{_≡_}
 use borrow.Author.Needs.{needs}
 use borrow.Author.Tests.{eq-eqb, ne-eqb}
 use Rattle.registers.specs.Registers.{written}
