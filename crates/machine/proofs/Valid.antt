@@ -83,7 +83,7 @@ word-le m s i h = subst (λ (x : ℕ). x ≤ bitsOf i) (s .words i h) (and-le-r 
 
 -- ---- the check's test
 
-bits-voice : (v j : ℕ) → v < 32 → j < 20 → bitsOf (20 * v + j) ≡ getD voiceBits j 0
+pub bits-voice : (v j : ℕ) → v < 32 → j < 20 → bitsOf (20 * v + j) ≡ getD voiceBits j 0
 unfolding bitsOf
 bits-voice v j h k = let e : (20 * v + j) % 20 ≡ j = omega arith in rw (lt-ltb (20 * v + j) 640 (omega arith), e)
 

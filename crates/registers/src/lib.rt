@@ -2,9 +2,12 @@
 // Each public call checks what it is lent, refuses, or hands on to one worker; `decode` is the one map from page and register to word,
 // for writes and reads alike.
 ghost use mathlib.Core.Path.{_≡_};
+ghost use mathlib.Core.Bool.{true};
 ghost use Prim.Native.Nat.{_<_};
-ghost use lib.ListN.{length};
-ghost use Rattle.registers.specs.Registers.{registerOf, byteOf, withByte, stored, written, touched, opened};
+ghost use lib.ListN.{length, getD, set};
+ghost use Rattle.machine.specs.Words.{valid, READ};
+ghost use Rattle.registers.specs.Registers.{registerOf, byteOf, withByte, stored, written, readAs, touched, opened};
+ghost use Rattle.registers.specs.Registers.{acknowledged};
 ghost use Rattle.registers.specs.Inside.{Inside};
 ghost use Rattle.registers.specs.Calls.{Writes, Reads, SetsPot};
 use answer::Answer;
@@ -125,7 +128,7 @@ fn decode(page: u32, r: u32) -> Register
             },
             32..=63 => match r {
                 0 => Register::Word((20 * (page - 32)) as usize),
-                1..=9 => Register::Word((20 * (page - 32) + 10 + r) as usize),
+                1..=9 => Register::Word((20 * (page - 32) + (10 + r)) as usize),
                 _ => Register::Word(machine::W_ST + (r - 10) as usize),
             },
             _ => match r {
@@ -151,5 +154,73 @@ fn store(m: &mut [u32], register: Register, x: u32)
         Register::Pot => {}
         Register::Vector => {}
         Register::Nothing => {}
+    }
+}
+
+// Byte 0 of a register is read: the register goes to the read latch. The pot result is then all ones until a new one is set.
+fn open(m: &mut [u32], register: Register)
+    requires { ⌜ valid (now m) ≡ true ⌝ }
+    requires { ⌜ Inside register ⌝ }
+    ensures { λ _. ⌜ now (m .exit) ≡ touched (set (now (m .entry)) READ (readAs (now (m .entry)) register)) register ⌝ }
+{
+    match register {
+        Register::Word(i) => {
+            m[machine::READ] = m[i];
+        }
+        Register::Sum(_) => {
+            m[machine::READ] = 0;
+        }
+        Register::Pot => {
+            m[machine::READ] = m[machine::PAR];
+            m[machine::PAR] = 1023;
+        }
+        Register::Vector => {
+            m[machine::READ] = m[machine::IRQV];
+            acknowledge(m);
+        }
+        Register::Nothing => {
+            m[machine::READ] = 0;
+        }
+    }
+}
+
+// The vector was read: the voice that it names loses its interrupt flag, and the vector is free for the next.
+fn acknowledge(m: &mut [u32])
+    requires { ⌜ valid (now m) ≡ true ⌝ }
+    ensures { λ _. ⌜ now (m .exit) ≡ acknowledged (now (m .entry)) ⌝ }
+{
+    let voice = m[machine::IRQV];
+    if voice < 32 {
+        let i = (20 * voice) as usize;
+        let cr = m[i];
+        m[i] = control::with_bit(control::IRQ, 0, cr);
+        m[machine::IRQV] = 128;
+    }
+}
+
+// x with its byte k, counted from the highest, replaced by b.
+fn with_byte(k: u32, b: u8, x: u32) -> u32
+    requires { ⌜ k < 4 ⌝ }
+    ensures { λ r. ⌜ r ≡ withByte k b x ⌝ }
+{
+    let b = b as u32;
+    match k {
+        0 => b * 16777216 + x % 16777216,
+        1 => x / 16777216 * 16777216 + b * 65536 + x % 65536,
+        2 => x / 65536 * 65536 + b * 256 + x % 256,
+        _ => x / 256 * 256 + b,
+    }
+}
+
+// Byte k of x, counted from the highest.
+fn byte(k: u32, x: u32) -> u8
+    requires { ⌜ k < 4 ⌝ }
+    ensures { λ r. ⌜ r ≡ byteOf k x ⌝ }
+{
+    match k {
+        0 => (x / 16777216) as u8,
+        1 => (x / 65536 % 256) as u8,
+        2 => (x / 256 % 256) as u8,
+        _ => (x % 256) as u8,
     }
 }

@@ -1,0 +1,130 @@
+-- What each rule on a register leaves of a valid record is valid.
+-- In order: words that are cut already; the latches and the pot result; writing; reading. Assumes nothing.
+use mathlib.Core.Path.{_≡_, refl, _∙_}
+use mathlib.Core.List.{List}
+use Prim.Native.Nat.{ℕ, zero, suc, _-_, _^_, _<_, _≤_}
+use native.Mathlib.Nat.{mod-eq-of-lt}
+use native.Mathlib.Omega.{arith}
+use lib.Bits.{and-mask}
+use lib.Dec.{eqb, ltb, ltb→lt}
+use lib.ListN.{getD, set}
+use borrow.Author.Tests.{ltb-true}
+use Rattle.numbers.proofs.Tests.{either, all-at}
+use Rattle.control.specs.Control.{withBit, IRQ}
+use Rattle.control.proofs.Bits.{put-small}
+use Rattle.machine.specs.Words.{PAGE, IRQV, PAR, WRITE, READ, wordOf, voiceBits, aboveBits, bitsOf, cut, isVector}
+use Rattle.machine.proofs.Valid.{Sound, word-le, bits-voice, cut-again, sound-set}
+use Rattle.registers.specs.declared.Register.{Register}
+use Rattle.registers.specs.declared.Register.the-variants.{Word, Sum, Pot, Vector, Nothing}
+use Rattle.registers.specs.Registers.{registerOf, withByte, stored, written, readAs, acknowledged, touched, opened}
+use Rattle.registers.specs.Inside.{Inside}
+use Rattle.registers.proofs.Inside.{inside}
+
+-- ---- words that are cut already
+
+-- a number below 2 to the n, in a word that keeps the n lowest bits
+cut-low : (i n x : ℕ) → bitsOf i ≡ 2 ^ n - 1 → x < 2 ^ n → cut i x ≡ x
+unfolding cut
+cut-low i n x e h = rw e (and-mask x n ∙ mod-eq-of-lt h)
+
+bits-lt : (i : ℕ) → i < 663 → bitsOf i < 2 ^ 32
+unfolding bitsOf voiceBits aboveBits
+bits-lt i h = ltb→lt (bitsOf i) (2 ^ 32) (all-at (λ j. ltb (bitsOf j) (2 ^ 32)) 663 tt i h)
+
+pub word-lt : (m : List ℕ) → Sound m → (i : ℕ) → i < 663 → getD m i 0 < 2 ^ 32
+word-lt m s i h = omega (arith, word-le m s i h, bits-lt i h)
+
+-- CR of a voice is a word of 16 bits
+cr-bits : (v : ℕ) → v < 32 → bitsOf (wordOf v 0) ≡ 2 ^ 16 - 1
+unfolding voiceBits
+cr-bits v h = bits-voice v 0 h (omega arith)
+
+pub cr-lt : (m : List ℕ) → Sound m → (v : ℕ) → v < 32 → getD m (wordOf v 0) 0 < 65536
+cr-lt m s v h = omega (arith, word-le m s (wordOf v 0) (omega arith), cr-bits v h)
+
+-- ---- the latches, which may hold any 32 bits, and the pot result
+
+pub write-latch : {m : List ℕ} (x : ℕ) → Sound m → x < 2 ^ 32 → Sound (set m WRITE x)
+unfolding bitsOf aboveBits
+write-latch x s h = sound-set WRITE x s (omega arith) (cut-low WRITE 32 x refl h) (λ (z : 649 ≡ 641). absurd (omega arith))
+
+pub read-latch : {m : List ℕ} (x : ℕ) → Sound m → x < 2 ^ 32 → Sound (set m READ x)
+unfolding bitsOf aboveBits
+read-latch x s h = sound-set READ x s (omega arith) (cut-low READ 32 x refl h) (λ (z : 650 ≡ 641). absurd (omega arith))
+
+pub pot-sound : {m : List ℕ} (p : ℕ) → Sound m → p ≤ 1023 → Sound (set m PAR p)
+unfolding bitsOf aboveBits
+pot-sound p s h = sound-set PAR p s (omega arith) (cut-low PAR 10 p refl (omega arith)) (λ (z : 642 ≡ 641). absurd (omega arith))
+
+-- ---- writing
+
+pub byte-lt : (k b x : ℕ) → k < 4 → b < 256 → x < 2 ^ 32 → withByte k b x < 2 ^ 32
+unfolding withByte
+byte-lt zero b x h d e = omega arith
+byte-lt (suc zero) b x h d e = omega arith
+byte-lt (suc (suc zero)) b x h d e = omega arith
+byte-lt (suc (suc (suc zero))) b x h d e = omega arith
+byte-lt (suc (suc (suc (suc k)))) b x h d e = absurd (omega arith)
+
+store-sound : (m : List ℕ) (i x : ℕ) → Sound m → (i < 663) × (i ≡ 641 → ⊥) → Sound (set m i (cut i x))
+store-sound m i x s h = sound-set i (cut i x) s (h .0) (cut-again i x) (λ e. absurd (h .1 e))
+
+stored-sound : (m : List ℕ) (register : Register) (x : ℕ) → Sound m → Inside register → Sound (stored m register x)
+unfolding stored
+stored-sound m (Word i) x s h = store-sound m i x s h
+stored-sound m (Sum i) x s h = store-sound m i x s h
+stored-sound m Pot x s h = s
+stored-sound m Vector x s h = s
+stored-sound m Nothing x s h = s
+
+pub written-sound : (m : List ℕ) (r k b : ℕ) → Sound m → r < 16 → k < 4 → b < 256 → Sound (written m r k b)
+unfolding written
+written-sound m r k b s h d e =
+    let latch = withByte k b (getD m WRITE 0) in
+    either Sound (eqb k 3) _ _
+    (λ _. write-latch 0 (stored-sound m (registerOf (getD m PAGE 0) r) latch s (inside (getD m PAGE 0) r h)) (omega arith))
+    (λ _. write-latch latch s (byte-lt k b (getD m WRITE 0) d e (word-lt m s WRITE (omega arith))))
+
+-- ---- reading
+
+value-lt : (m : List ℕ) (register : Register) → Sound m → Inside register → readAs m register < 2 ^ 32
+unfolding readAs
+value-lt m (Word i) s h = word-lt m s i (h .0)
+value-lt m (Sum i) s h = omega arith
+value-lt m Pot s h = word-lt m s PAR (omega arith)
+value-lt m Vector s h = word-lt m s IRQV (omega arith)
+value-lt m Nothing s h = omega arith
+
+-- a register in the read latch
+pub latched : (m : List ℕ) (register : Register) → Sound m → Inside register → Sound (set m READ (readAs m register))
+latched m register s h = read-latch (readAs m register) s (value-lt m register s h)
+
+acknowledged-sound : (m : List ℕ) → Sound m → Sound (acknowledged m)
+unfolding acknowledged isVector bitsOf aboveBits cut
+acknowledged-sound m s =
+    let v = getD m IRQV 0 in
+    let cr = wordOf v 0 in
+    either Sound (ltb v 32) _ _
+    (λ t.
+    let h = ltb-true v 32 t in
+    let x = withBit IRQ 0 (getD m cr 0) in
+    sound-set IRQV 128
+    (sound-set cr x s (omega arith) (cut-low cr 16 x (cr-bits v h) (put-small IRQ 0 (getD m cr 0) (omega arith) (omega arith) (cr-lt m s v h))) (λ e. absurd (omega arith)))
+    (omega arith) refl (λ _. refl))
+    (λ _. s)
+
+touched-sound : (m : List ℕ) (register : Register) → Sound m → Sound (touched m register)
+unfolding touched
+touched-sound m (Word i) s = s
+touched-sound m (Sum i) s = s
+touched-sound m Pot s = pot-sound 1023 s (omega arith)
+touched-sound m Vector s = acknowledged-sound m s
+touched-sound m Nothing s = s
+
+pub opened-sound : (m : List ℕ) (r k : ℕ) → Sound m → r < 16 → Sound (opened m r k)
+unfolding opened
+opened-sound m r k s h =
+    let register = registerOf (getD m PAGE 0) r in
+    either Sound (eqb k 0) _ _
+    (λ _. touched-sound (set m READ (readAs m register)) register (latched m register s (inside (getD m PAGE 0) r h)))
+    (λ _. s)
