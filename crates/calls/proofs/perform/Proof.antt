@@ -1,0 +1,57 @@
+-- `calls::perform` meets its contract: the ask is one of the five, and that call's promise is what is owed. Assumes nothing.
+use mathlib.Core.Path.{_≡_, sym, subst}
+use mathlib.Core.List.{List}
+use Prim.Native.Nat.{ℕ}
+use borrow.Author.Needs.{needs}
+use lib.IntN.{ℤ}
+use Rattle.answer.specs.declared.Answer.{Answer}
+use Rattle.calls.specs.Asks.{Performs}
+use Rattle.calls.specs.declared.Ask.{Ask}
+use Rattle.calls.proofs.Performs.{resets, writes, reads, sets-pot, frames}
+use Rattle.calls.proofs.perform.Statement.{statement}
+use Rattle.calls.proofs.perform.Tie as tie
+
+-- what is owed of one ask is owed of an equal one
+of-ask : {m memory later : List ℕ} {out sound : List ℤ} {a b : Ask} {r : Answer} {x : ℕ} → a ≡ b → Performs m memory out b r x later sound → Performs m memory out a r x later sound
+of-ask {m} {memory} {later} {out} {sound} {r} {x} e p = subst (λ (k : Ask). Performs m memory out k r x later sound) (sym e) p
+
+returns : tie.Need-returns
+returns c = of-ask (c .before .before .before .before .enum-told .given .1) (resets _ _ _ (c .before .before .reset .ensures))
+
+returns-2 : tie.Need-returns-2
+returns-2 c = of-ask (c .before .before .before .before .before .ask .given .1) (writes _ _ _ _ _ (c .before .before .write .ensures))
+
+returns-3 : tie.Need-returns-3
+returns-3 c = of-ask (c .before .before .before .before .before .ask2 .given .1) (reads _ _ _ _ (c .before .before .read .ensures))
+
+returns-4 : tie.Need-returns-4
+returns-4 c = of-ask (c .before .before .before .before .before .ask3 .given .1) (sets-pot _ _ _ _ (c .before .before .set-pot .ensures))
+
+returns-5 : tie.Need-returns-5
+returns-5 c = of-ask (c .before .before .before .before .before .before .enum-told2 .given .1) (frames _ _ _ (c .before .before .before .frame .ensures))
+
+pub perform-spec : {M : Type 1} → statement M
+perform-spec =
+    tie.close
+    (tie.spec
+    (λ c. search needs)
+    (λ c κs. search needs)
+    (λ c. search needs)
+    (λ c κs. search needs)
+    (λ c. search needs)
+    (λ c κs. search needs)
+    (λ c. search needs)
+    (λ c κs. search needs)
+    (λ c. search needs)
+    (λ c κs. search needs)
+    (λ c. search needs)
+    returns
+    (λ c. search needs)
+    returns-2
+    (λ c. search needs)
+    returns-3
+    (λ c. search needs)
+    returns-4
+    (λ c. search needs)
+    (λ c. search needs)
+    returns-5)

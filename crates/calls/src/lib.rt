@@ -1,0 +1,48 @@
+// A call as a value, performed on a record: the five calls that take a record, in one.
+ghost use Rattle.calls.specs.Asks.{Performs};
+use answer::Answer;
+
+pub enum Ask {
+    Reset,
+    Write(u32, u8),
+    Read(u32),
+    SetPot(u32),
+    Frame,
+}
+
+pub struct Reply {
+    pub answer: Answer,
+    pub byte: u8,
+}
+
+// The call that is asked. Only a frame looks at the sample memory and the output.
+pub fn perform(m: &mut [u32], ask: Ask, memory: &[u16], out: &mut [i32]) -> Reply
+    ensures { λ r. ⌜ Performs (now (m .entry)) (now (memory .entry)) (now (out .entry)) ask (r .answer) (r .byte) (now (m .exit)) (now (out .exit)) ⌝ }
+{
+    match ask {
+        Ask::Reset => Reply {
+            answer: machine::reset(m),
+            byte: 0,
+        },
+        Ask::Write(a, b) => Reply {
+            answer: registers::write(m, a, b),
+            byte: 0,
+        },
+        Ask::Read(a) => {
+            let got = registers::read(m, a);
+            let answer = got.answer;
+            Reply {
+                answer: answer,
+                byte: got.byte,
+            }
+        }
+        Ask::SetPot(p) => Reply {
+            answer: registers::set_pot(m, p),
+            byte: 0,
+        },
+        Ask::Frame => Reply {
+            answer: frame::frame(m, memory, out),
+            byte: 0,
+        },
+    }
+}
