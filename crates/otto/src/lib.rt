@@ -1,0 +1,58 @@
+// The engine for hosts in C, C++ and Rust: each call under its C name, with the promise of the call. A slice passes as a pointer and a
+// length. `include/otto.h` is the other side.
+ghost use mathlib.Core.Path.{_≡_};
+ghost use Rattle.codes.specs.Codes.{valueOf, Compressed};
+ghost use Rattle.calls.specs.Calls.{Reset, Write, SetPot};
+ghost use Rattle.otto.specs.Promises.{Calls, Reading, Framing};
+
+#[no_mangle]
+pub extern "C" fn otto_reset(record: &mut [u32]) -> u32
+    ensures { λ r. ⌜ Calls (now («record» .entry)) Reset r (now («record» .exit)) ⌝ }
+{
+    answer::number(machine::reset(record))
+}
+
+#[no_mangle]
+pub extern "C" fn otto_write(record: &mut [u32], address: u32, value: u8) -> u32
+    ensures { λ r. ⌜ Calls (now («record» .entry)) (Write address value) r (now («record» .exit)) ⌝ }
+{
+    answer::number(registers::write(record, address, value))
+}
+
+#[no_mangle]
+pub extern "C" fn otto_read(record: &mut [u32], address: u32, byte: &mut u8) -> u32
+    ensures { λ r. ⌜ Reading (now («record» .entry)) address r (now (byte .exit)) (now («record» .exit)) ⌝ }
+{
+    let got = registers::read(record, address);
+    *byte = got.byte;
+    let a = got.answer;
+    answer::number(a)
+}
+
+#[no_mangle]
+pub extern "C" fn otto_set_pot(record: &mut [u32], pot: u32) -> u32
+    ensures { λ r. ⌜ Calls (now («record» .entry)) (SetPot pot) r (now («record» .exit)) ⌝ }
+{
+    answer::number(registers::set_pot(record, pot))
+}
+
+#[no_mangle]
+pub extern "C" fn otto_frame(record: &mut [u32], memory: &[u16], output: &mut [i32]) -> u32
+    ensures { λ r. ⌜ Framing (now («record» .entry)) (now (memory .entry)) (now (output .entry)) r (now («record» .exit)) (now (output .exit)) ⌝ }
+{
+    answer::number(frame::frame(record, memory, output))
+}
+
+#[no_mangle]
+pub extern "C" fn otto_compress(sample: i16) -> u8
+    ensures { λ r. ⌜ Compressed sample r ⌝ }
+{
+    codes::compress(sample)
+}
+
+#[no_mangle]
+pub extern "C" fn otto_expand(code: u8) -> i16
+    ensures { λ r. ⌜ r ≡ valueOf code ⌝ }
+{
+    codes::expand(code)
+}
