@@ -223,8 +223,8 @@ back-again k memory slow n v l periods h =
 
 -- ---- a loop whose END has a fraction
 
--- A voice at the start of a loop, a sample a turn. The loop is as long as 50 samples and 15/16 of one, END being 124800, and 15/16 shorter where
--- END has lost its four low bits. What a loop does not need is 0.
+-- A voice at the start of its loop, which moves by a sample a turn. With END 124800 the loop is 50 samples and 15/16 of one long, with END cut to whole
+-- samples it is 50. What a loop does not need is 0.
 pub sustained : ℕ → ℕ → Voice
 sustained CR END = record {
   cr = CR;
@@ -269,7 +269,7 @@ sustained-loops = (loops Forward 0x08 refl refl (refl, refl, refl), loops Revers
 pub accumAt : ℕ → ℕ → ℕ
 accumAt n END = turnsOf (λ k. []) (λ k. 0) n (sustained 0x08 END) .accum
 
--- soon past the loop point the two ENDs are heard apart
+-- Soon past the loop point the two are apart: END's fraction is part of the pitch.
 pub fraction-counts : (accumAt 53 124800 ≡ 24704) × (accumAt 53 (124800 / 2048 * 2048) ≡ 26624) × (accumAt 53 124800 ≢ accumAt 53 (124800 / 2048 * 2048))
 unfolding accumAt sustained turnsOf turnOf runningTurn moved withOutputs runs flagOf bitOf stepped forward event raised word floorMod
 fraction-counts = (refl, refl, λ e. omega arith)

@@ -40,7 +40,8 @@ periodOf Forward v = v .end - v .start
 periodOf Reverse v = v .end - v .start
 periodOf Bidirectional v = 2 * (v .end - v .start)
 
--- The voice runs in a loop of that kind: it is between the loop points, and no step is longer than the loop.
+-- The voice runs in a loop of that kind and heeds its loop points. It is between them, and no step is longer than the loop; a longer one
+-- would be past the loop point still after the event.
 pub record Loops (k : Kind) (v : Voice) : Type 0 where
   pub running : runs (v .cr) ≡ true
   pub heeded : flagOf LEI (v .cr) ≡ false
@@ -51,8 +52,8 @@ pub record Loops (k : Kind) (v : Voice) : Type 0 where
   pub pace : v .fc ≤ v .end - v .start
   pub address : v .end < 4294967296
 
--- w is v after n turns in tune: it still runs in that loop, and is where n steps of FC bring it, to the last bit of END. Nothing is lost or
--- gained at a loop point, so the pitch of a note does not depend on how long it is held.
+-- w is v after n turns in tune: it still runs in that loop, between the same loop points, and is where n steps of FC bring it, to the last bit
+-- of END. Nothing is lost or gained at a loop point, so the pitch does not depend on how long the note is held.
 pub record InTune (k : Kind) (n : ℕ) (v w : Voice) : Type 0 where
   pub loops : Loops k w
   pub start : w .start ≡ v .start
