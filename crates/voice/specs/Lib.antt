@@ -1,2 +1,3 @@
 pub mod Turn
 pub mod Ranges
+pub mod Tune

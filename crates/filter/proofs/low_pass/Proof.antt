@@ -4,20 +4,24 @@ use native.Mathlib.Omega.{arith}
 use borrow.Author.Needs.{needs}
 use mir.Syntax.{w32}
 use Rattle.numbers.specs.Numbers.{Bits}
-use Rattle.numbers.proofs.Local.{held, nat, sub, mul, shr, add, share4}
+use Rattle.numbers.proofs.Local.{held, nat, sub, mul, shr, add, share3}
 use Rattle.filter.specs.Filter.{lowPass}
 use Rattle.filter.proofs.Laws.{low-bits}
 use Rattle.filter.proofs.low_pass.Statement.{statement}
 use Rattle.filter.proofs.low_pass.Tie as tie
 
-pub low-pass-spec : {M : Type 1} → statement M
+returns : tie.Need-returns
 unfolding lowPass
-low-pass-spec = tie.close (share4 (tie.spec (λ c. search needs)) (λ c.
-    let x = held w32 tt (c .pre .1 .0) in
+returns c =
     let y = held w32 tt (c .pre .1 .1) in
-    let k = nat w32 4095 (c .args .k) tt (omega arith) in
-    let d = sub x y tt in
-    let p = mul k (d .num) tt in
-    let q = shr 4096 (p .num) tt in
-    let r = add y (q .num) tt in
-    (d .asks, p .asks, r .asks, (r .num .is, subst (Bits 18) (sym (r .num .is)) (low-bits _ _ _ (c .pre .0) (c .pre .1 .0) (c .pre .1 .1))))))
+    let d = sub (held w32 tt (c .pre .1 .0)) y tt in
+    let p = mul (nat w32 4095 (c .args .k) tt (omega arith)) (d .num) tt in
+    let r = add y (shr 4096 (p .num) tt .num) tt in
+    (r .num .is, subst (Bits 18) (sym (r .num .is)) (low-bits _ _ _ (c .pre .0) (c .pre .1 .0) (c .pre .1 .1)))
+
+pub low-pass-spec : {M : Type 1} → statement M
+low-pass-spec = tie.close (share3 (tie.spec (λ c. search needs)) (λ c.
+    let y = held w32 tt (c .pre .1 .1) in
+    let d = sub (held w32 tt (c .pre .1 .0)) y tt in
+    let p = mul (nat w32 4095 (c .args .k) tt (omega arith)) (d .num) tt in
+    (d .asks, p .asks, add y (shr 4096 (p .num) tt .num) tt .asks)) returns)

@@ -11,12 +11,6 @@ use Rattle.volume.specs.Volume.{panned, volumeOf, mantissa, exponent}
 use Rattle.volume.proofs.pan.Statement.{statement}
 use Rattle.volume.proofs.pan.Tie as tie
 
-mul-result : tie.Need-mul-result
-mul-result c =
-    let o = shr 4 (held w32 tt (c .pre .1)) tt in
-    let m = nat w32 511 (256 + c .args .volume / 16 % 256) tt (omega arith) in
-    mul (o .num) m tt .asks
-
 returns : tie.Need-returns
 unfolding panned volumeOf mantissa exponent
 returns c =
@@ -25,6 +19,12 @@ returns c =
     let p = shr 32 (mul (o .num) m tt .num) tt in
     let r = shr-by (2 ^ (15 - c .args .volume / 4096)) (p .num) tt in
     (r .num .is, subst (Within 1048576) (sym (r .num .is)) (widen tt (r .num .size)))
+
+mul-result : tie.Need-mul-result
+mul-result c =
+    let o = shr 4 (held w32 tt (c .pre .1)) tt in
+    let m = nat w32 511 (256 + c .args .volume / 16 % 256) tt (omega arith) in
+    mul (o .num) m tt .asks
 
 pub pan-spec : {M : Type 1} → statement M
 pan-spec =
