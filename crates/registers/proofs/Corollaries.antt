@@ -14,7 +14,6 @@ use lib.Seq.{getD-set-same, getD-set-other}
 use borrow.Author.Tests.{ltb-true}
 use Rattle.numbers.proofs.Tests.{either}
 use Rattle.answer.specs.Answer.{isDone}
-use Rattle.answer.specs.declared.Answer.the-variants.{Address}
 use Rattle.answer.specs.declared.Answer.the-variants.{Pot as PotRefused}
 use Rattle.control.specs.Control.{IRQ, bitOf, withBit}
 use Rattle.control.proofs.Bits.{read-other}
@@ -22,19 +21,13 @@ use Rattle.machine.specs.Words.{PAGE, IRQV, PAR, WRITE, READ, wordOf, cut, vali
 use Rattle.machine.specs.Voices.{voiceAt}
 use Rattle.machine.proofs.Parts.{voice-set, voice-set-out}
 use Rattle.machine.proofs.Valid.{Sound, sound, is-valid}
-use Rattle.machine.proofs.Answers.{not-refused}
 use Rattle.registers.specs.declared.Register.{Register}
 use Rattle.registers.specs.declared.Register.the-variants.{Word, Sum, Pot, Vector, Nothing}
 use Rattle.registers.specs.Registers.{registerOf, stored, written, readAs, acknowledged, touched, opened}
 use Rattle.registers.specs.Calls.{byteAnswer, writeRecord, readRecord, readByte, potAnswer, potRecord}
-use Rattle.registers.proofs.Laws.{asked-back}
+use Rattle.registers.proofs.Laws.{asked-back, byte-done}
 use Rattle.registers.proofs.Valid.{written-sound, opened-sound, pot-sound}
 use Rattle.registers.proofs.Whole.{wholeWrite, whole-write}
-
--- where a byte is not refused, the record is valid and the address at most 63
-done-byte : (m : List ℕ) (a : ℕ) → isDone (byteAnswer m a) ≡ true → Sound m × (a ≤ 63)
-unfolding byteAnswer
-done-byte m a d = let p = asked-back m 63 a Address refl d in (not-refused m (p .0), p .1)
 
 -- ---- a valid record stays valid under every call
 
@@ -42,14 +35,14 @@ pub write-valid : (m : List ℕ) (a b : ℕ) → b < 256 → valid m ≡ true �
 unfolding writeRecord
 write-valid m a b h v =
     either (λ (n : List ℕ). valid n ≡ true) (isDone (byteAnswer m a)) (written m (a / 4) (a % 4) b) m
-    (λ d. let p = done-byte m a d .1 in is-valid (written m (a / 4) (a % 4) b) (written-sound m (a / 4) (a % 4) b (sound m v) (omega arith) (omega arith) h))
+    (λ d. let p = byte-done m a d .1 in is-valid (written m (a / 4) (a % 4) b) (written-sound m (a / 4) (a % 4) b (sound m v) (omega arith) (omega arith) h))
     (λ _. v)
 
 pub read-valid : (m : List ℕ) (a : ℕ) → valid m ≡ true → valid (readRecord m a) ≡ true
 unfolding readRecord
 read-valid m a v =
     either (λ (n : List ℕ). valid n ≡ true) (isDone (byteAnswer m a)) (opened m (a / 4) (a % 4)) m
-    (λ d. let p = done-byte m a d .1 in is-valid (opened m (a / 4) (a % 4)) (opened-sound m (a / 4) (a % 4) (sound m v) (omega arith)))
+    (λ d. let p = byte-done m a d .1 in is-valid (opened m (a / 4) (a % 4)) (opened-sound m (a / 4) (a % 4) (sound m v) (omega arith)))
     (λ _. v)
 
 pub pot-valid : (m : List ℕ) (p : ℕ) → valid m ≡ true → valid (potRecord m p) ≡ true
@@ -81,7 +74,7 @@ after-read : (P : List ℕ → Type 0) (m : List ℕ) (a : ℕ) → P m → (Sou
 unfolding readRecord opened
 after-read P m a h f =
     either P (isDone (byteAnswer m a)) (opened m (a / 4) (a % 4)) m
-    (λ d. either P (eqb (a % 4) 0) _ m (λ _. f (done-byte m a d .0) (registerOf (getD m PAGE 0) (a / 4))) (λ _. h))
+    (λ d. either P (eqb (a % 4) 0) _ m (λ _. f (byte-done m a d .0) (registerOf (getD m PAGE 0) (a / 4))) (λ _. h))
     (λ _. h)
 
 module _ (m : List ℕ) (i : ℕ) (not-vector : i ≢ IRQV) where

@@ -1,6 +1,6 @@
 -- What each call answers and leaves, by the way that it ends: the record refused, the number refused, done.
 -- In order: the answer, of any call that asks the record and then one number; the promise of each call from its way. Assumes nothing.
-use mathlib.Core.Path.{_≡_, sym, _∙_}
+use mathlib.Core.Path.{_≡_, refl, sym, _∙_}
 use mathlib.Core.Bool.{true, false, false≢true}
 use mathlib.Core.List.{List}
 use Prim.Native.Nat.{ℕ, _/_, _%_, _<_, _≤_}
@@ -10,10 +10,12 @@ use borrow.Author.Tests.{lt-ltb, le-ltb, ltb-false}
 use Rattle.numbers.proofs.Tests.{split}
 use Rattle.answer.specs.Answer.{isDone, refuse, first}
 use Rattle.answer.specs.declared.Answer.{Answer}
-use Rattle.answer.specs.declared.Answer.the-variants.{Done}
+use Rattle.answer.specs.declared.Answer.the-variants.{Done, Address}
 use Rattle.answer.proofs.Refusals.{is-done}
 use Rattle.machine.specs.Words.{PAR, READ}
 use Rattle.machine.specs.Calls.{checked}
+use Rattle.machine.proofs.Valid.{Sound}
+use Rattle.machine.proofs.Answers.{not-refused}
 use Rattle.registers.specs.Registers.{byteOf, written, opened}
 use Rattle.registers.specs.Calls.{byteAnswer, writeRecord, readRecord, readByte, Writes, Reads, potAnswer, potRecord, SetsPot}
 
@@ -40,6 +42,11 @@ module _ (m : List ℕ) (bound x : ℕ) (far : Answer) where
       (λ t. absurd (false≢true (sym f ∙ (rw (d, t) at h))))
       (λ t. (is-done (checked m) d, ltb-false bound x t)))
       (λ d. absurd (false≢true (sym d ∙ (rw d at h))))
+
+-- a byte that is not refused: the record is valid, and the address at most 63
+pub byte-done : (m : List ℕ) (a : ℕ) → isDone (byteAnswer m a) ≡ true → Sound m × (a ≤ 63)
+unfolding byteAnswer
+byte-done m a d = let p = asked-back m 63 a Address refl d in (not-refused m (p .0), p .1)
 
 -- ---- each call
 

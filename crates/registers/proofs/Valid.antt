@@ -2,6 +2,7 @@
 -- In order: words that are cut already; the latches and the pot result; writing; reading. Assumes nothing.
 use mathlib.Core.Path.{_≡_, refl, _∙_}
 use mathlib.Core.List.{List}
+use mathlib.Core.Logic.{_≢_}
 use Prim.Native.Nat.{ℕ, zero, suc, _-_, _^_, _<_, _≤_}
 use native.Mathlib.Nat.{mod-eq-of-lt}
 use native.Mathlib.Omega.{arith}
@@ -44,17 +45,21 @@ cr-lt m s v h = omega (arith, word-le m s (wordOf v 0) (omega arith), cr-bits v 
 
 -- ---- the latches, which may hold any 32 bits, and the pot result
 
+-- a store of such a number, in a word that is not the vector
+low-sound : {m : List ℕ} (i n x : ℕ) → Sound m → i < 663 → i ≢ 641 → bitsOf i ≡ 2 ^ n - 1 → x < 2 ^ n → Sound (set m i x)
+low-sound i n x s h v e l = sound-set i x s h (cut-low i n x e l) (λ z. absurd (v z))
+
 pub write-latch : {m : List ℕ} (x : ℕ) → Sound m → x < 2 ^ 32 → Sound (set m WRITE x)
 unfolding bitsOf aboveBits
-write-latch x s h = sound-set WRITE x s (omega arith) (cut-low WRITE 32 x refl h) (λ (z : 649 ≡ 641). absurd (omega arith))
+write-latch x s h = low-sound WRITE 32 x s (omega arith) (λ z. omega arith) refl h
 
-pub read-latch : {m : List ℕ} (x : ℕ) → Sound m → x < 2 ^ 32 → Sound (set m READ x)
+read-latch : {m : List ℕ} (x : ℕ) → Sound m → x < 2 ^ 32 → Sound (set m READ x)
 unfolding bitsOf aboveBits
-read-latch x s h = sound-set READ x s (omega arith) (cut-low READ 32 x refl h) (λ (z : 650 ≡ 641). absurd (omega arith))
+read-latch x s h = low-sound READ 32 x s (omega arith) (λ z. omega arith) refl h
 
 pub pot-sound : {m : List ℕ} (p : ℕ) → Sound m → p ≤ 1023 → Sound (set m PAR p)
 unfolding bitsOf aboveBits
-pot-sound p s h = sound-set PAR p s (omega arith) (cut-low PAR 10 p refl (omega arith)) (λ (z : 642 ≡ 641). absurd (omega arith))
+pot-sound p s h = low-sound PAR 10 p s (omega arith) (λ z. omega arith) refl (omega arith)
 
 -- ---- writing
 
@@ -109,7 +114,7 @@ acknowledged-sound m s =
     let h = ltb-true v 32 t in
     let x = withBit IRQ 0 (getD m cr 0) in
     sound-set IRQV 128
-    (sound-set cr x s (omega arith) (cut-low cr 16 x (cr-bits v h) (put-small IRQ 0 (getD m cr 0) (omega arith) (omega arith) (cr-lt m s v h))) (λ e. absurd (omega arith)))
+    (low-sound cr 16 x s (omega arith) (λ z. omega arith) (cr-bits v h) (put-small IRQ 0 (getD m cr 0) (omega arith) (omega arith) (cr-lt m s v h)))
     (omega arith) refl (λ _. refl))
     (λ _. s)
 

@@ -9,7 +9,7 @@ ghost use Rattle.machine.specs.Words.{valid, READ};
 ghost use Rattle.registers.specs.Registers.{registerOf, byteOf, withByte, stored, written, readAs, touched, opened};
 ghost use Rattle.registers.specs.Registers.{acknowledged};
 ghost use Rattle.registers.specs.Inside.{Inside};
-ghost use Rattle.registers.specs.Calls.{Writes, Reads, SetsPot};
+ghost use Rattle.registers.specs.Calls.{byteAnswer, Writes, Reads, SetsPot};
 use answer::Answer;
 
 // What a page and a register number name.
@@ -30,33 +30,26 @@ pub struct Got {
     pub byte: u8,
 }
 
+// A byte from the host. The registers are wider than its bus: byte 3 of a register sends off the bytes gathered before it.
 pub fn write(m: &mut [u32], address: u32, value: u8) -> Answer
     ensures { λ r. ⌜ Writes (now (m .entry)) address value r (now (m .exit)) ⌝ }
 {
-    let a = machine::check(m);
+    let a = refusal(m, address);
     let Answer::Done = a else {
         return a;
     };
-    if 63 < address {
-        return Answer::Address;
-    }
     write_byte(m, address / 4, address % 4, value);
     Answer::Done
 }
 
+// A byte for the host. Byte 0 takes the register whole, so that the bytes after it belong together.
 pub fn read(m: &mut [u32], address: u32) -> Got
     ensures { λ r. ⌜ Reads (now (m .entry)) address (r .answer) (r .byte) (now (m .exit)) ⌝ }
 {
-    let a = machine::check(m);
+    let a = refusal(m, address);
     let Answer::Done = a else {
         return Got { answer: a, byte: 0 };
     };
-    if 63 < address {
-        return Got {
-            answer: Answer::Address,
-            byte: 0,
-        };
-    }
     let byte = read_byte(m, address / 4, address % 4);
     Got {
         answer: Answer::Done,
@@ -64,6 +57,7 @@ pub fn read(m: &mut [u32], address: u32) -> Got
     }
 }
 
+// A conversion result, for the host to read.
 pub fn set_pot(m: &mut [u32], value: u32) -> Answer
     ensures { λ r. ⌜ SetsPot (now (m .entry)) value r (now (m .exit)) ⌝ }
 {
@@ -75,6 +69,20 @@ pub fn set_pot(m: &mut [u32], value: u32) -> Answer
         return Answer::Pot;
     }
     m[machine::PAR] = value;
+    Answer::Done
+}
+
+// Why a byte is refused, the record asked before the address; Done where it is not.
+fn refusal(m: &[u32], address: u32) -> Answer
+    ensures { λ r. ⌜ r ≡ byteAnswer (now (m .entry)) address ⌝ }
+{
+    let a = machine::check(m);
+    let Answer::Done = a else {
+        return a;
+    };
+    if 63 < address {
+        return Answer::Address;
+    }
     Answer::Done
 }
 
@@ -139,7 +147,7 @@ fn decode(page: u32, r: u32) -> Register
     }
 }
 
-// x, cut to the bits kept, in a register that can be written.
+// x, cut to the bits kept, in a register that can be written. The others take nothing: their writes end in the latch.
 fn store(m: &mut [u32], register: Register, x: u32)
     requires { ⌜ (length (now m) ≡ 663) × Inside register ⌝ }
     ensures { λ _. ⌜ now (m .exit) ≡ stored (now (m .entry)) register x ⌝ }
@@ -157,7 +165,7 @@ fn store(m: &mut [u32], register: Register, x: u32)
     }
 }
 
-// Byte 0 of a register is read: the register goes to the read latch. The pot result is then all ones until a new one is set.
+// Byte 0 of a register is read: the register goes to the read latch. The pot result reads as all ones until the next one is there.
 fn open(m: &mut [u32], register: Register)
     requires { ⌜ valid (now m) ≡ true ⌝ }
     requires { ⌜ Inside register ⌝ }
