@@ -1,0 +1,98 @@
+-- Frames computed from their definition. In order: two notes, and a record that plays some; the frame of a record; a table of chords
+-- and what is heard of them, with its theorem; one note's first frame, and its second. Assumes nothing.
+--
+-- The rows show what becomes of channel sums past the rails. A sum held after each voice would be heard: nine voices would give what
+-- eight do, and high and low voices together would depend on which came first.
+use mathlib.Core.Path.{_≡_, refl}
+use mathlib.Core.List.{List, [], _∷_, _++_, map}
+use Prim.Native.Nat.{ℕ, suc}
+use lib.IntN.{ℤ, pos}
+use lib.ListN.{getD, replicate}
+use Rattle.numbers.specs.Numbers.{floorDiv, floorMod, minus, signed, word, held}
+use Rattle.control.specs.Control.{bitOf, flagOf, withBit, runs}
+use Rattle.filter.specs.Filter.{lowPass, highPass, coefficient, pole3, pole4, filtered}
+use Rattle.volume.specs.Volume.{mantissa, exponent, volumeOf, panned}
+use Rattle.channel.specs.Channel.{mixed, putOut}
+use Rattle.ramp.specs.Ramp.{increment, ramped, slowRamped}
+use Rattle.address.specs.Address.{raised, event, forward, stepped}
+use Rattle.sample.specs.Sample.{firstAt, secondAt, sampleOf, fetched, fraction, between}
+use Rattle.voice.specs.Turn.{outputs, levels, withOutputs, moved, stoppedTurn, sampled, runningTurn, turnOf}
+use Rattle.answer.specs.Answer.{refuse, first}
+use Rattle.answer.specs.declared.Answer.{Answer}
+use Rattle.answer.specs.declared.Answer.the-variants.{Done}
+use Rattle.machine.specs.Words.{wordOf, voiceBits, aboveBits, bitsOf, cut, cutTo, isVector, valid}
+use Rattle.machine.specs.Voices.{voiceAt, putVoice}
+use Rattle.machine.specs.Calls.{sized, checked, resetWord, wordsFrom, fresh}
+use Rattle.frame.specs.Voices.{wordsOf}
+use Rattle.frame.specs.Frame.{summed, added, signalled, turned, turnAt, turns, heard, silenced, closed, played, frameAnswer, frameRecord, frameOutput}
+
+-- A voice at the top of its left volume, and at volume 0 on the right, its poles filled with p. It loops from END to START 2048, and
+-- LVOL falls from one frame to the next.
+abbrev note : ℕ → ℕ → List ℕ
+note END p =
+    776 ∷ 1 ∷ 0xFFF0 ∷ 0x8000 ∷ 0 ∷ 0 ∷ 9 ∷ 0xFFF0 ∷ 0 ∷ 0xFFF0 ∷ 0
+    ∷ 2048 ∷ END ∷ END ∷ p ∷ p ∷ p ∷ p ∷ p ∷ p ∷ []
+
+-- on the greatest sample and on the least; and the memory where they are
+abbrev pub high : List ℕ
+high = note 10240 131068
+
+abbrev pub low : List ℕ
+low = note 20480 131072
+
+abbrev pub memory : List ℕ
+memory = replicate 8 32767 ++ replicate 4 32768
+
+abbrev pub silence : List ℤ
+silence = replicate 12 (pos 0)
+
+-- a record after a reset, with these voices from voice v on
+abbrev pub playing : ℕ → List (List ℕ) → List ℕ
+playing v [] = fresh
+playing v (w ∷ ws) = putVoice (playing (suc v) ws) v w
+
+-- what a frame answers, leaves and puts out; all that it computes by is named here, once
+unfoldable pub framed : List ℕ → Answer × (List ℕ × List ℤ)
+unfolding floorDiv floorMod signed word held bitOf flagOf withBit runs lowPass highPass coefficient pole3 pole4 filtered mantissa exponent volumeOf panned mixed putOut increment ramped slowRamped raised event forward stepped firstAt secondAt sampleOf fetched fraction between outputs levels withOutputs moved stoppedTurn sampled runningTurn turnOf voiceBits aboveBits bitsOf cut cutTo isVector valid voiceAt putVoice sized checked resetWord wordsFrom fresh wordsOf summed added signalled turned turnAt turns heard silenced closed played frameAnswer frameRecord frameOutput
+framed m = (frameAnswer m memory silence, (frameRecord m memory silence, frameOutput m memory silence))
+
+abbrev left : List (List ℕ) → ℤ
+left voices = getD (heard (played memory (playing 0 voices))) 0 (pos 0)
+
+pub chords : List (ℤ × ℤ)
+chords =
+    (left (high ∷ []), pos 523248)
+    ∷ (left (low ∷ []), minus 523264)
+    ∷ (left (replicate 8 high), pos 524287)
+    ∷ (left (replicate 9 high), minus 524288)
+    ∷ (left (high ∷ high ∷ low ∷ []), pos 523232)
+    ∷ (left (low ∷ high ∷ high ∷ []), pos 523232)
+    ∷ []
+
+pub chords-heard : map (λ (row : ℤ × ℤ). row .0) chords ≡ map (λ (row : ℤ × ℤ). row .1) chords
+unfolding chords framed
+chords-heard = refl
+
+-- ---- one note
+
+abbrev pub one : List ℕ
+one = playing 0 (high ∷ [])
+
+pub one-done : frameAnswer one memory silence ≡ Done
+unfolding framed
+one-done = refl
+
+-- the top of the left volume; and volume 0, which is not silence
+pub one-heard : frameOutput one memory silence ≡ pos 523248 ∷ pos 7 ∷ replicate 10 (pos 0)
+unfolding framed
+one-heard = refl
+
+-- past END, back to START
+pub one-stepped : getD (frameRecord one memory silence) (wordOf 0 13) 0 ≡ 2049
+unfolding framed
+one-stepped = refl
+
+-- the second frame has the volume as the first left it
+pub two-heard : frameOutput (frameRecord one memory silence) memory (frameOutput one memory silence) ≡ pos 515056 ∷ pos 7 ∷ replicate 10 (pos 0)
+unfolding framed
+two-heard = refl

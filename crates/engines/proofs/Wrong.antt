@@ -1,0 +1,67 @@
+-- The promises leave no choice, and so no room for a wrong engine. In order: two outcomes that a promise allows are equal; two engines
+-- that keep the promises agree; four wrong engines, each of which breaks a promise in the frames of one note. Assumes nothing.
+use mathlib.Core.Path.{_≡_, refl, sym, ap, _∙_}
+use mathlib.Core.Bool.{true, false, false≢true}
+use mathlib.Core.List.{List, [], _∷_}
+use Prim.Native.Nat.{ℕ}
+use lib.IntN.{ℤ, pos, natAbs}
+use lib.ListN.{getD, replicate}
+use native.Mathlib.Omega.{arith}
+use Rattle.answer.specs.Answer.{isDone}
+use Rattle.answer.specs.declared.Answer.the-variants.{Done}
+use Rattle.machine.specs.Words.{wordOf}
+use Rattle.frame.specs.Frame.{frameRecord, frameOutput}
+use Rattle.calls.specs.Calls.{Frame, answerTo, after, outputFrom}
+use Rattle.calls.specs.Asks.{Performs}
+use Rattle.engines.specs.Engines.{Outcome, Engine, Meets, Keeps, RefusesAll, PutsOutZeros, NeverChanges, Repeats}
+use Rattle.engines.proofs.Heard.{one, memory, silence, framed, one-done, one-heard, one-stepped, two-heard}
+use Rattle.calls.specs.declared.Ask.{Ask}
+use Rattle.calls.specs.declared.Ask.the-variants as Ask
+
+pub one-outcome : {m memory : List ℕ} {out : List ℤ} {ask : Ask} (o p : Outcome) → Meets m memory out ask o → Meets m memory out ask p → o ≡ p
+one-outcome o p h k =
+    let a : o .answer ≡ p .answer = h .answers ∙ sym (k .answers) in
+    let b : o .byte ≡ p .byte = h .gives ∙ sym (k .gives) in
+    let l : o .later ≡ p .later = h .leaves ∙ sym (k .leaves) in
+    let s : o .sound ≡ p .sound = h .sounds ∙ sym (k .sounds) in
+    rw (a, b, l, s)
+
+pub one-engine : (e f : Engine) → Keeps e → Keeps f → (m memory : List ℕ) (out : List ℤ) (ask : Ask) → e m memory out ask ≡ f m memory out ask
+one-engine e f h k m memory out ask = one-outcome (e m memory out ask) (f m memory out ask) (h m memory out ask) (k m memory out ask)
+
+-- ---- wrong engines
+
+-- the first value heard, without its sign
+leftmost : List ℤ → ℕ
+leftmost l = natAbs (getD l 0 (pos 0))
+
+module _ (e : Engine) (keeps : Keeps e) where
+  pub not-refuses-all : RefusesAll e → ⊥
+  unfolding answerTo
+  not-refuses-all h = false≢true (sym (h one memory silence Ask.Frame) ∙ ap isDone (keeps one memory silence Ask.Frame .answers ∙ one-done))
+
+  pub not-zeros : PutsOutZeros e → ⊥
+  unfolding answerTo outputFrom leftmost
+  not-zeros h =
+      let k = keeps one memory silence Ask.Frame in
+      let z = h one memory silence (ap isDone (k .answers ∙ one-done)) in
+      let p : _≡_ {A = ℕ} 523248 0 = ap leftmost (sym one-heard ∙ sym (k .sounds) ∙ z) in
+      omega arith
+
+  pub not-frozen : NeverChanges e → ⊥
+  unfolding after framed
+  not-frozen h =
+      let p = sym (keeps one memory silence Ask.Frame .leaves) ∙ h one memory silence Ask.Frame in
+      let q : _≡_ {A = ℕ} 2049 10240 = sym one-stepped ∙ ap (λ m. getD m (wordOf 0 13) 0) p in
+      omega arith
+
+  pub not-repeats : Repeats e → ⊥
+  unfolding outputFrom after leftmost
+  not-repeats h =
+      let k = keeps one memory silence Ask.Frame in
+      let l = keeps (e one memory silence Ask.Frame .later) memory (e one memory silence Ask.Frame .sound) Ask.Frame in
+      let s : e (e one memory silence Ask.Frame .later) memory (e one memory silence Ask.Frame .sound) Ask.Frame .sound
+      ≡ frameOutput (frameRecord one memory silence) memory (frameOutput one memory silence)
+      = l .sounds ∙ (λ i. frameOutput (k .leaves i) memory (k .sounds i)) in
+      let p : _≡_ {A = ℕ} 515056 523248 = ap leftmost (sym two-heard ∙ sym s ∙ h one memory silence ∙ k .sounds ∙ one-heard) in
+      omega arith
