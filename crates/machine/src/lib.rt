@@ -38,52 +38,52 @@ pub const SUMS: usize = 651;
 
 // The bits kept by a voice's words, and by the words above the voices.
 const VOICE_BITS: [u32; 20] = [
-    65535,
-    131071,
-    65535,
-    65280,
-    65535,
-    65280,
-    511,
-    65535,
-    65281,
-    65535,
-    65281,
-    4294965248,
-    4294967168,
-    4294967295,
-    262143,
-    262143,
-    262143,
-    262143,
-    262143,
-    262143,
+    0xFFFF, // CR
+    0x1FFFF, // FC
+    0xFFFF, // LVOL
+    0xFF00, // LVRAMP
+    0xFFFF, // RVOL
+    0xFF00, // RVRAMP
+    0x1FF, // ECOUNT
+    0xFFFF, // K2
+    0xFF01, // K2RAMP
+    0xFFFF, // K1
+    0xFF01, // K1RAMP
+    0xFFFF_F800, // START
+    0xFFFF_FF80, // END
+    0xFFFF_FFFF, // ACCUM
+    0x3FFFF, // O4(n-1)
+    0x3FFFF, // O3(n-1)
+    0x3FFFF, // O3(n-2)
+    0x3FFFF, // O2(n-1)
+    0x3FFFF, // O2(n-2)
+    0x3FFFF, // O1(n-1)
 ];
 
 const ABOVE_BITS: [u32; 23] = [
-    127,
-    255,
-    1023,
-    31,
-    31,
-    127,
-    127,
-    127,
-    7,
-    4294967295,
-    4294967295,
-    8388607,
-    8388607,
-    8388607,
-    8388607,
-    8388607,
-    8388607,
-    8388607,
-    8388607,
-    8388607,
-    8388607,
-    8388607,
-    8388607,
+    0x7F, // PAGE
+    0xFF, // IRQV
+    0x3FF, // PAR
+    0x1F, // ACTV
+    0x1F, // MODE
+    0x7F, // W_ST
+    0x7F, // W_END
+    0x7F, // LR_END
+    0x7, // the slow-ramp counter
+    0xFFFF_FFFF, // the write latch
+    0xFFFF_FFFF, // the read latch
+    0x7F_FFFF, // sum 0L
+    0x7F_FFFF, // sum 0R
+    0x7F_FFFF, // sum 1L
+    0x7F_FFFF, // sum 1R
+    0x7F_FFFF, // sum 2L
+    0x7F_FFFF, // sum 2R
+    0x7F_FFFF, // sum 3L
+    0x7F_FFFF, // sum 3R
+    0x7F_FFFF, // sum 4L
+    0x7F_FFFF, // sum 4R
+    0x7F_FFFF, // sum 5L
+    0x7F_FFFF, // sum 5R
 ];
 
 // The bits that word i keeps.
