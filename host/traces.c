@@ -70,7 +70,7 @@ static uint32_t valid_word(uint32_t word)
 }
 
 /* An address close by another, or at an edge of the 32 bits. */
-static uint32_t near(uint32_t address)
+static uint32_t close_to(uint32_t address)
 {
     switch (random_below(4)) {
     case 0:
@@ -97,7 +97,7 @@ static void set_voice(uint32_t v)
 {
     uint32_t first = v * VOICE_WORDS;
     uint32_t start = any_word();
-    uint32_t end = random_once_in(3) ? any_word() : near(start);
+    uint32_t end = random_once_in(3) ? any_word() : close_to(start);
 
     for (uint32_t word = first; word < first + VOICE_WORDS; word++) {
         pair_poke(word, valid_word(word));
@@ -107,7 +107,7 @@ static void set_voice(uint32_t v)
     }
     poke_kept(first + VOICE_START, start);
     poke_kept(first + VOICE_END, end);
-    poke_kept(first + VOICE_ACCUM, near(random_once_in(2) ? start : end));
+    poke_kept(first + VOICE_ACCUM, close_to(random_once_in(2) ? start : end));
     if (random_once_in(3)) {
         poke_kept(first + VOICE_FC, random_below(16));
     }
@@ -154,6 +154,23 @@ static void walk_lengths(void)
         for (size_t j = 0; j < COUNT(output_lengths); j++) {
             (void)pair_frame(WORDS, memory_lengths[i], output_lengths[j]);
         }
+    }
+}
+
+/* Addresses and pot results about their limits, and far beyond. */
+static void walk_limits(void)
+{
+    static const uint32_t far[] = { 255, 256, 1024, 0x80000000u, 0xFFFFFFFFu };
+
+    for (uint32_t near = 0; near < 8; near++) {
+        (void)pair_write(WORDS, ADDRESS_LIMIT - 3 + near, 0);
+        (void)pair_read(WORDS, ADDRESS_LIMIT - 3 + near);
+        (void)pair_set_pot(WORDS, POT_LIMIT - 3 + near);
+    }
+    for (size_t i = 0; i < COUNT(far); i++) {
+        (void)pair_write(WORDS, far[i], 0);
+        (void)pair_read(WORDS, far[i]);
+        (void)pair_set_pot(WORDS, far[i]);
     }
 }
 
@@ -253,6 +270,7 @@ void trace_walks(void)
     random_seed(0);
     walk_codes();
     walk_lengths();
+    walk_limits();
     walk_damage();
     walk_registers();
     walk_loops();
