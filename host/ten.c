@@ -12,6 +12,6 @@ int main(void) {
     for (int i = 0; i < 8; i++)
         refused |= otto_write(machine, 663, bytes[i][0], bytes[i][1]);
     refused |= otto_frame(machine, 663, memory, 2, output, 12);
-    printf("refused %u, channel 0 left %d\n", (unsigned)refused, (int)output[0]);
+    printf("refused %u, heard %d\n", (unsigned)refused, (int)output[0]);
     return (int)refused;
 }
