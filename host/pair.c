@@ -90,7 +90,8 @@ static void stop(const char *call, const char *what)
 {
     printf("differ: seed %" PRIu64 ", call %lu, %s: %s\n", seed, calls, call,
            what);
-    printf("repeat with: build/differ %" PRIu64 "\n", seed);
+    printf("repeat with: build/differ %" PRIu64 " %" PRIu64 " %s\n", seed, seed,
+           engines[0]->name);
     fflush(stdout);
     _Exit(1);
 }
