@@ -96,6 +96,8 @@ static void stop(const char *call, const char *what)
     _Exit(1);
 }
 
+/* Printing is not safe in every handler; here the program ends anyway, and the
+   seed is worth the risk. */
 static void crashed(int number)
 {
     (void)number;
@@ -113,8 +115,8 @@ static void stop_at(const char *call, const char *what, size_t place,
     stop(call, text);
 }
 
-/* Names the first word that differs; places are counted from the end of what
-   was lent, as -663 for a record's first word is hard to read otherwise. */
+/* Names the first word that differs, by its place in a record of the right
+   length, or by how far it stands in front of one. */
 static void stop_in_record(const char *call)
 {
     for (size_t i = MOST_RECORD; i > 0; i--) {
