@@ -8,7 +8,8 @@
 
 #define MOST_BYTES 65536u
 
-static unsigned char input[MOST_BYTES + 1u]; /* one more shows what is too long */
+/* One byte more shows what is too long. */
+static unsigned char input[MOST_BYTES + 1u];
 
 static int16_t sample_of(unsigned char high, unsigned char low)
 {

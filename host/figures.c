@@ -394,44 +394,40 @@ static uint32_t compress_by_shifting(int32_t sample)
     return bits / 2048; /* sign bit kept */
 }
 
-static void compressed_samples(void)
+static void compressed_row(uint32_t row)
 {
-    uint32_t row;
+    const struct example *x = &examples[row];
+    int32_t least = x->left < x->right ? x->left : x->right;
+    int32_t greatest = x->left < x->right ? x->right : x->left;
+
+    check_at("example hex, left", row, x->code, x->left_hex,
+             (x->left + 65536) % 65536);
+    check_at("example hex, right", row, x->code, x->right_hex,
+             (x->right + 65536) % 65536);
+    check_at("example code", row, x->code,
+             x->exponent * 32 + x->mantissa, x->code);
+    check_at("example compress, left", row, x->code,
+             reference_compress((int16_t)x->left), x->code);
+    check_at("example compress, right", row, x->code,
+             reference_compress((int16_t)x->right), x->code);
+    check_at("example expand", row, x->code,
+             reference_expand((uint8_t)x->code), least);
+    if (least > -32768) {
+        check_at("example, below the row", row, x->code,
+                 reference_compress((int16_t)(least - 1)) == x->code, 0);
+    }
+    if (greatest < 32767) {
+        check_at("example, above the row", row, x->code,
+                 reference_compress((int16_t)(greatest + 1)) == x->code,
+                 0);
+    }
+}
+
+static void compressed_codes(void)
+{
     uint32_t code;
     uint32_t other;
-    int32_t sample;
-    int64_t unlike = 0;
-    int64_t above = 0;
-    int64_t better = 0;
     int64_t equal = 0;
-
-    for (row = 0; row < sizeof examples / sizeof examples[0]; row++) {
-        const struct example *x = &examples[row];
-        int32_t least = x->left < x->right ? x->left : x->right;
-        int32_t greatest = x->left < x->right ? x->right : x->left;
-
-        check_at("example hex, left", row, x->code, x->left_hex,
-                 (x->left + 65536) % 65536);
-        check_at("example hex, right", row, x->code, x->right_hex,
-                 (x->right + 65536) % 65536);
-        check_at("example code", row, x->code,
-                 x->exponent * 32 + x->mantissa, x->code);
-        check_at("example compress, left", row, x->code,
-                 reference_compress((int16_t)x->left), x->code);
-        check_at("example compress, right", row, x->code,
-                 reference_compress((int16_t)x->right), x->code);
-        check_at("example expand", row, x->code,
-                 reference_expand((uint8_t)x->code), least);
-        if (least > -32768) {
-            check_at("example, below the row", row, x->code,
-                     reference_compress((int16_t)(least - 1)) == x->code, 0);
-        }
-        if (greatest < 32767) {
-            check_at("example, above the row", row, x->code,
-                     reference_compress((int16_t)(greatest + 1)) == x->code,
-                     0);
-        }
-    }
 
     for (code = 0; code < 256; code++) {
         for (other = 0; other < code; other++) {
@@ -444,6 +440,15 @@ static void compressed_samples(void)
                  reference_compress(reference_expand((uint8_t)code)), code);
     }
     check("no two codes have one value", equal, 0);
+}
+
+static void compressed_each(void)
+{
+    uint32_t code;
+    int32_t sample;
+    int64_t unlike = 0;
+    int64_t above = 0;
+    int64_t better = 0;
 
     for (sample = -32768; sample <= 32767; sample++) {
         uint8_t found = reference_compress((int16_t)sample);
@@ -466,7 +471,17 @@ static void compressed_samples(void)
     check("compress is the manual's program", unlike, 0);
     check("no value above its sample", above, 0);
     check("no nearer code below a sample", better, 0);
+}
 
+static void compressed_samples(void)
+{
+    uint32_t row;
+
+    for (row = 0; row < sizeof examples / sizeof examples[0]; row++) {
+        compressed_row(row);
+    }
+    compressed_codes();
+    compressed_each();
     check("compress 32767", reference_compress(32767), 255);
     check("compress 0", reference_compress(0), 0);
     check("compress -32768", reference_compress(-32768), 224);
@@ -572,7 +587,6 @@ static uint32_t allowed_bits(uint32_t word)
 static void validity(void)
 {
     uint32_t word;
-    uint32_t value;
 
     /* Each single bit of each word, on top of a record just reset. */
     for (word = 0; word < 663; word++) {
@@ -591,6 +605,11 @@ static void validity(void)
         }
         check_at("bits taken in word", word, 0, taken, allowed_bits(word));
     }
+}
+
+static void valid_vectors(void)
+{
+    uint32_t value;
 
     /* The vector holds 0..31 or 128. */
     for (value = 0; value < 300; value++) {
@@ -605,7 +624,10 @@ static void validity(void)
     rec[641] = 31;
     rec[643] = 7;
     check("vector above the active voices", put(0, 0), 0);
+}
 
+static void valid_latches_and_signs(void)
+{
     /* Latches hold anything. */
     fresh();
     rec[649] = 0x000000FFu;
@@ -676,7 +698,10 @@ static void refusals(void)
     /* An invalid record comes before address, pot, memory and output. */
     refused_bytes("invalid record", 663, 64, 1024, 2, 2);
     refused_frame("frame, invalid record", 663, 8388609, 11, 2);
+}
 
+static void refused_arguments(void)
+{
     /* Then the arguments. */
     fresh();
     rec[650] = 0x12345678u;
@@ -722,52 +747,64 @@ static uint32_t map_word(uint32_t page, uint32_t number)
     return test[number];
 }
 
+static void write_place(uint32_t page, uint32_t number)
+{
+    uint32_t home = map_word(page, number);
+    int fixed = number == 13 || number == 14 || home == 663;
+    uint32_t word;
+
+    /* Write all ones over zeros: one word changes, cut as kept. */
+    fresh();
+    for (word = 0; word < 663; word++) {
+        rec[word] = 0;
+    }
+    rec[640] = page;
+    keep();
+    put_register(number, 0xFFFFFFFFu);
+    if (fixed || (number == 15 && page == 127)) {
+        check_at("write, no change", page, number, count_changes(),
+                 0);
+    } else {
+        check_at("write, place", page, number, first_change(), home);
+        check_at("write, count", page, number, count_changes(), 1);
+        check_at("write, value", page, number, rec[home],
+                 allowed_bits(home));
+    }
+}
+
+static void read_place(uint32_t page, uint32_t number)
+{
+    uint32_t home = map_word(page, number);
+    uint32_t word;
+
+    /* Read a record in which every word is told by its bits. */
+    for (word = 0; word < 663; word++) {
+        rec[word] = (word * 0x9E3779B1u) & allowed_bits(word);
+    }
+    rec[640] = page;
+    rec[641] = 128;
+    keep();
+    check_at("read, value", page, number, get_register(number),
+             page >= 64 && number <= 12 ? 0 : before[home]);
+    check_at("read, latch", page, number, rec[650],
+             page >= 64 && number <= 12 ? 0 : before[home]);
+    rec[650] = before[650];
+    if (number == 13) {
+        check_at("read, pot set back", page, number, rec[642], 1023);
+        rec[642] = before[642];
+    }
+    check_at("read, nothing else", page, number, count_changes(), 0);
+}
+
 static void register_map(void)
 {
     uint32_t page;
     uint32_t number;
-    uint32_t word;
 
     for (page = 0; page < 128; page++) {
         for (number = 0; number < 16; number++) {
-            uint32_t home = map_word(page, number);
-            int fixed = number == 13 || number == 14 || home == 663;
-
-            /* Write all ones over zeros: one word changes, cut as kept. */
-            fresh();
-            for (word = 0; word < 663; word++) {
-                rec[word] = 0;
-            }
-            rec[640] = page;
-            keep();
-            put_register(number, 0xFFFFFFFFu);
-            if (fixed || (number == 15 && page == 127)) {
-                check_at("write, no change", page, number, count_changes(),
-                         0);
-            } else {
-                check_at("write, place", page, number, first_change(), home);
-                check_at("write, count", page, number, count_changes(), 1);
-                check_at("write, value", page, number, rec[home],
-                         allowed_bits(home));
-            }
-
-            /* Read a record in which every word is told by its bits. */
-            for (word = 0; word < 663; word++) {
-                rec[word] = (word * 0x9E3779B1u) & allowed_bits(word);
-            }
-            rec[640] = page;
-            rec[641] = 128;
-            keep();
-            check_at("read, value", page, number, get_register(number),
-                     page >= 64 && number <= 12 ? 0 : before[home]);
-            check_at("read, latch", page, number, rec[650],
-                     page >= 64 && number <= 12 ? 0 : before[home]);
-            rec[650] = before[650];
-            if (number == 13) {
-                check_at("read, pot set back", page, number, rec[642], 1023);
-                rec[642] = before[642];
-            }
-            check_at("read, nothing else", page, number, count_changes(), 0);
+            write_place(page, number);
+            read_place(page, number);
         }
     }
 }
@@ -797,7 +834,10 @@ static void latches(void)
     check("bytes 0 to 2 fill the latch", rec[649], 0x12345600);
     (void)put(1, 0x78);
     check("a byte replaces its like", rec[649], 0x12785600);
+}
 
+static void shared_latch(void)
+{
     /* One latch for all registers. */
     fresh();
     (void)put(4 * 9 + 2, 0xAB);
@@ -822,7 +862,10 @@ static void latches(void)
     rec[649] = 0xFFFFFF00u;
     (void)put(63, 0xFF);
     check("page cut to 7 bits", rec[640], 127);
+}
 
+static void channels_by_byte(void)
+{
     /* Channels read as 0 through the latch. */
     fresh();
     rec[640] = 64;
@@ -832,7 +875,10 @@ static void latches(void)
     check("channel byte 0", get(0), 0);
     check("channel byte 3", get(3), 0);
     check("sum stands", rec[651], 0x7FFFFF);
+}
 
+static void taken_values(void)
+{
     /* Bytes 1 to 3 only look at the latch. */
     fresh();
     rec[641] = 5;
@@ -855,7 +901,10 @@ static void latches(void)
     check("IRQV afterwards", rec[641], 128);
     check("IRQV byte 3 from the latch", get(59), 5);
     check("IRQV again", get_register(14), 128);
+}
 
+static void vector_and_flags(void)
+{
     /* Also of a voice that is not active, and one whose flag is off. */
     fresh();
     rec[643] = 3;
@@ -875,7 +924,10 @@ static void latches(void)
     put_register(0, 3);
     check("flag written off", W(0, 0), 3);
     check("vector stands", rec[641], 0);
+}
 
+static void odd_registers(void)
+{
     /* Filter words come without sign extension. */
     fresh();
     rec[640] = 32;
@@ -948,7 +1000,10 @@ static void sample(void)
     check("compressed, between", input_is(0x2000, 2 * 2048 + 1024, words, 4,
                                           4 * 28672 - 2 * 28928),
           1);
+}
 
+static void bank_ends(void)
+{
     /* Last word of a bank, and its neighbour at the bank's other end. */
     whole[0] = 11;
     whole[2097151] = 100;
@@ -1019,7 +1074,10 @@ static void filters(void)
     (void)frame(loud, 16);
     rec[648] = 0;
     check("inactive voice: nothing", count_changes(), 0);
+}
 
+static void pole_edges(void)
+{
     /* Only the whole of the high pass is held. */
     check("high pass, parts not held",
           reference_high_pass(4095, 131071, -131072, -131072), 131071);
@@ -1056,7 +1114,10 @@ static void volume(void)
         }
         check_at("channel, beyond the record", channel, 0, rec[663], 0);
     }
+}
 
+static void what_sounds(void)
+{
     /* It is pole 4's new output that sounds, cut to 16 bits. */
     fresh();
     steady(0, 32767, 0);
@@ -1079,7 +1140,10 @@ static void volume(void)
     /* -32768 at FFF0 gives -523264. */
     check("mixed signs", out[0], 2 * 523248 - 523264);
     memset(whole, 0, sizeof whole);
+}
 
+static void written_sums(void)
+{
     /* What the host wrote in a channel goes out with the next frame. */
     fresh();
     rec[640] = 64;
@@ -1100,56 +1164,72 @@ static void volume(void)
 
 /* ==== frame: address ====================================================== */
 
+static void forward_events(uint32_t irqe)
+{
+    uint32_t flags = irqe + 4 * irqe; /* IRQE, and IRQ after an event */
+    uint32_t vector = irqe ? 0 : 128;
+
+    /* Forward, 5 past the end. */
+    step(irqe, 2048, 10240, 10235, 10);
+    check_at("forward 0,0 ACCUM", irqe, 0, W(0, 13), 10240);
+    check_at("forward 0,0 CR", irqe, 0, W(0, 0), flags + 0x01);
+    check_at("forward 0,0 IRQV", irqe, 0, rec[641], vector);
+    step(irqe + 0x08, 2048, 10240, 10235, 10);
+    check_at("forward 0,1 ACCUM", irqe, 0, W(0, 13), 2053);
+    check_at("forward 0,1 CR", irqe, 0, W(0, 0), flags + 0x08);
+    step(irqe + 0x10, 2048, 10240, 10235, 10);
+    check_at("forward 1,0 ACCUM", irqe, 0, W(0, 13), 2053);
+    check_at("forward 1,0 CR", irqe, 0, W(0, 0), flags + 0x04);
+    step(irqe + 0x18, 2048, 10240, 10235, 10);
+    check_at("forward 1,1 ACCUM", irqe, 0, W(0, 13), 10235);
+    check_at("forward 1,1 CR", irqe, 0, W(0, 0), flags + 0x58);
+}
+
+static void reverse_events(uint32_t irqe)
+{
+    uint32_t flags = irqe + 4 * irqe; /* IRQE, and IRQ after an event */
+    uint32_t vector = irqe ? 0 : 128;
+
+    /* Reverse, 3 below the start. */
+    step(irqe + 0x40, 2048, 10240, 2055, 10);
+    check_at("reverse 0,0 ACCUM", irqe, 0, W(0, 13), 2048);
+    check_at("reverse 0,0 CR", irqe, 0, W(0, 0), flags + 0x41);
+    check_at("reverse 0,0 IRQV", irqe, 0, rec[641], vector);
+    step(irqe + 0x48, 2048, 10240, 2055, 10);
+    check_at("reverse 0,1 ACCUM", irqe, 0, W(0, 13), 10237);
+    check_at("reverse 0,1 CR", irqe, 0, W(0, 0), flags + 0x48);
+    step(irqe + 0x50, 2048, 10240, 2055, 10);
+    check_at("reverse 1,0 ACCUM", irqe, 0, W(0, 13), 10237);
+    check_at("reverse 1,0 CR", irqe, 0, W(0, 0), flags + 0x44);
+    step(irqe + 0x58, 2048, 10240, 2055, 10);
+    check_at("reverse 1,1 ACCUM", irqe, 0, W(0, 13), 2051);
+    check_at("reverse 1,1 CR", irqe, 0, W(0, 0), flags + 0x18);
+}
+
+static void no_events(uint32_t irqe)
+{
+    /* No event: on the point itself, or with the loop end ignored. */
+    step(irqe + 0x58, 2048, 10240, 2058, 10);
+    check_at("to the start, ACCUM", irqe, 0, W(0, 13), 2048);
+    check_at("to the start, CR", irqe, 0, W(0, 0), irqe + 0x58);
+    step(irqe + 0x1C, 2048, 10240, 10235, 10);
+    check_at("ignored end, ACCUM", irqe, 0, W(0, 13), 10245);
+    check_at("ignored end, CR", irqe, 0, W(0, 0), irqe + 0x1C);
+    check_at("ignored end, IRQV", irqe, 0, rec[641], 128);
+    step(irqe + 0x5C, 2048, 10240, 3, 5);
+    check_at("ignored start, ACCUM", irqe, 0, W(0, 13),
+             INT64_C(4294967294));
+    check_at("ignored start, CR", irqe, 0, W(0, 0), irqe + 0x5C);
+}
+
 static void address(void)
 {
     uint32_t irqe;
 
     for (irqe = 0; irqe <= 0x20; irqe += 0x20) {
-        uint32_t flags = irqe + 4 * irqe; /* IRQE, and IRQ after an event */
-        uint32_t vector = irqe ? 0 : 128;
-
-        /* Forward, 5 past the end. */
-        step(irqe, 2048, 10240, 10235, 10);
-        check_at("forward 0,0 ACCUM", irqe, 0, W(0, 13), 10240);
-        check_at("forward 0,0 CR", irqe, 0, W(0, 0), flags + 0x01);
-        check_at("forward 0,0 IRQV", irqe, 0, rec[641], vector);
-        step(irqe + 0x08, 2048, 10240, 10235, 10);
-        check_at("forward 0,1 ACCUM", irqe, 0, W(0, 13), 2053);
-        check_at("forward 0,1 CR", irqe, 0, W(0, 0), flags + 0x08);
-        step(irqe + 0x10, 2048, 10240, 10235, 10);
-        check_at("forward 1,0 ACCUM", irqe, 0, W(0, 13), 2053);
-        check_at("forward 1,0 CR", irqe, 0, W(0, 0), flags + 0x04);
-        step(irqe + 0x18, 2048, 10240, 10235, 10);
-        check_at("forward 1,1 ACCUM", irqe, 0, W(0, 13), 10235);
-        check_at("forward 1,1 CR", irqe, 0, W(0, 0), flags + 0x58);
-
-        /* Reverse, 3 below the start. */
-        step(irqe + 0x40, 2048, 10240, 2055, 10);
-        check_at("reverse 0,0 ACCUM", irqe, 0, W(0, 13), 2048);
-        check_at("reverse 0,0 CR", irqe, 0, W(0, 0), flags + 0x41);
-        check_at("reverse 0,0 IRQV", irqe, 0, rec[641], vector);
-        step(irqe + 0x48, 2048, 10240, 2055, 10);
-        check_at("reverse 0,1 ACCUM", irqe, 0, W(0, 13), 10237);
-        check_at("reverse 0,1 CR", irqe, 0, W(0, 0), flags + 0x48);
-        step(irqe + 0x50, 2048, 10240, 2055, 10);
-        check_at("reverse 1,0 ACCUM", irqe, 0, W(0, 13), 10237);
-        check_at("reverse 1,0 CR", irqe, 0, W(0, 0), flags + 0x44);
-        step(irqe + 0x58, 2048, 10240, 2055, 10);
-        check_at("reverse 1,1 ACCUM", irqe, 0, W(0, 13), 2051);
-        check_at("reverse 1,1 CR", irqe, 0, W(0, 0), flags + 0x18);
-
-        /* No event: on the point itself, or with the loop end ignored. */
-        step(irqe + 0x58, 2048, 10240, 2058, 10);
-        check_at("to the start, ACCUM", irqe, 0, W(0, 13), 2048);
-        check_at("to the start, CR", irqe, 0, W(0, 0), irqe + 0x58);
-        step(irqe + 0x1C, 2048, 10240, 10235, 10);
-        check_at("ignored end, ACCUM", irqe, 0, W(0, 13), 10245);
-        check_at("ignored end, CR", irqe, 0, W(0, 0), irqe + 0x1C);
-        check_at("ignored end, IRQV", irqe, 0, rec[641], 128);
-        step(irqe + 0x5C, 2048, 10240, 3, 5);
-        check_at("ignored start, ACCUM", irqe, 0, W(0, 13),
-                 INT64_C(4294967294));
-        check_at("ignored start, CR", irqe, 0, W(0, 0), irqe + 0x5C);
+        forward_events(irqe);
+        reverse_events(irqe);
+        no_events(irqe);
     }
 
     /* The test comes before the wrap. */
@@ -1161,7 +1241,10 @@ static void address(void)
     check("no event at the top", W(0, 13), 0xFFFFFF80);
     step(0x08, 0xFFFFF800u, 0, 0x1FFFFu, 0x1FFFF);
     check("start + d wraps", W(0, 13), 0x3FFFE - 2048);
+}
 
+static void address_rest(void)
+{
     /* END keeps four bits of fraction. */
     step(0x08, 0, 10368, 10300, 60);
     check("below a fractional end", W(0, 13), 10360);
@@ -1185,8 +1268,6 @@ static void address(void)
 
 static void ramps(void)
 {
-    uint32_t turn;
-
     /* All four, up and down, at the low end of the register. */
     fresh();
     W(0, 0) = 0;
@@ -1219,6 +1300,11 @@ static void ramps(void)
     check("ECOUNT 0", W(0, 6), 0);
     check("stopped, LVOL", W(1, 2), 1000);
     check("stopped, ECOUNT", W(1, 6), 5);
+}
+
+static void slow_ramps(void)
+{
+    uint32_t turn;
 
     /* Slow ramps move when the counter is 0; ECOUNT falls every frame. */
     fresh();
@@ -1246,7 +1332,10 @@ static void ramps(void)
     (void)frame(NULL, 0);
     check("held back", W(0, 7), 0);
     check("not held back", W(0, 9), 1);
+}
 
+static void values_before_ramps(void)
+{
     /* Sound and filters take the values before the ramp. */
     fresh();
     steady(0, 32767, 0);
@@ -1292,7 +1381,10 @@ static void events(void)
     (void)frame(loud, 16);
     check("stopped afterwards", out[0], 0);
     check("filter runs empty", W(0, 19), 31);
+}
 
+static void waiting_interrupts(void)
+{
     /* IRQE is not asked of a flag that the host set; stopped voices too. */
     fresh();
     W(0, 0) = 0x83;
@@ -1324,7 +1416,10 @@ static void events(void)
     (void)frame(NULL, 0);
     check("vector taken", rec[641], 20);
     check("flag waits", W(4, 0), 0x83);
+}
 
+static void idle_frames(void)
+{
     /* An idle frame moves the slow counter and nothing else. */
     fresh();
     keep();
@@ -1350,39 +1445,27 @@ static void events(void)
 
 /* ==== all ================================================================= */
 
+static void (*const groups[])(void) = {
+    figure_1_and_2, figure_3, figure_4, figure_5, figure_6, figure_7,
+    figure_8, figure_9, figure_10, figure_11, figure_12, compressed_samples,
+    rounding, reset, validity, valid_vectors, valid_latches_and_signs,
+    refusals, refused_arguments, register_map, latches, shared_latch,
+    channels_by_byte, taken_values, vector_and_flags, odd_registers, sample,
+    bank_ends, filters, pole_edges, volume, what_sounds, written_sums,
+    address, address_rest, ramps, slow_ramps, values_before_ramps, events,
+    waiting_interrupts, idle_frames,
+};
+
 int main(void)
 {
-    uint32_t place;
+    size_t place;
 
-    for (place = 0; place < 16; place++) {
+    for (place = 0; place < sizeof loud / sizeof loud[0]; place++) {
         loud[place] = 32767;
     }
-
-    figure_1_and_2();
-    figure_3();
-    figure_4();
-    figure_5();
-    figure_6();
-    figure_7();
-    figure_8();
-    figure_9();
-    figure_10();
-    figure_11();
-    figure_12();
-    compressed_samples();
-    rounding();
-    reset();
-    validity();
-    refusals();
-    register_map();
-    latches();
-    sample();
-    filters();
-    volume();
-    address();
-    ramps();
-    events();
-
+    for (place = 0; place < sizeof groups / sizeof groups[0]; place++) {
+        groups[place]();
+    }
     printf("figures: %lu checks, %lu failed\n", checks, failed);
     return failed == 0 ? 0 : 1;
 }

@@ -1,3 +1,8 @@
+/*
+ * The reference model: each rule in the order and words it is written in,
+ * over 64-bit numbers, so that what is compared with it is compared with
+ * something that can be read.
+ */
 #include "reference.h"
 
 /* ==== the record: which bits each word may hold ========================== */
@@ -172,6 +177,38 @@ uint32_t reference_reset(uint32_t *record, size_t words)
 #define REGISTER_PAGE 15u
 #define NO_WORD       RECORD_WORDS /* the place has no word behind it */
 
+/* Pages of a voice's lower half. */
+static uint32_t word_of_lower(uint32_t page, uint32_t number)
+{
+    if (number == 11) {
+        return WORD_ACTV;
+    }
+    if (number == 12) {
+        return WORD_MODE;
+    }
+    return page * VOICE_WORDS + number;
+}
+
+/* Pages of a voice's upper half; CR shows here too. */
+static uint32_t word_of_upper(uint32_t page, uint32_t number)
+{
+    static const uint32_t words[10] = {
+        VOICE_CR,    VOICE_START, VOICE_END,   VOICE_ACCUM, VOICE_O4_N1,
+        VOICE_O3_N1, VOICE_O3_N2, VOICE_O2_N1, VOICE_O2_N2, VOICE_O1_N1
+    };
+
+    if (number == 10) {
+        return WORD_W_ST;
+    }
+    if (number == 11) {
+        return WORD_W_END;
+    }
+    if (number == 12) {
+        return WORD_LR_END;
+    }
+    return (page - 32) * VOICE_WORDS + words[number];
+}
+
 /* The record word that a page and a register number stand for. */
 static uint32_t word_of_register(uint32_t page, uint32_t number)
 {
@@ -185,57 +222,14 @@ static uint32_t word_of_register(uint32_t page, uint32_t number)
     if (number == REGISTER_PAGE) {
         return WORD_PAGE;
     }
-
-    /* Lower half of a voice. */
     if (page <= 31) {
-        if (number == 11) {
-            return WORD_ACTV;
-        }
-        if (number == 12) {
-            return WORD_MODE;
-        }
-        return page * VOICE_WORDS + number;
+        return word_of_lower(page, number);
     }
-
-    /* Upper half of a voice; CR shows here too. */
     if (page <= 63) {
-        uint32_t first = (page - 32) * VOICE_WORDS;
-
-        switch (number) {
-        case 0:
-            return first + VOICE_CR;
-        case 1:
-            return first + VOICE_START;
-        case 2:
-            return first + VOICE_END;
-        case 3:
-            return first + VOICE_ACCUM;
-        case 4:
-            return first + VOICE_O4_N1;
-        case 5:
-            return first + VOICE_O3_N1;
-        case 6:
-            return first + VOICE_O3_N2;
-        case 7:
-            return first + VOICE_O2_N1;
-        case 8:
-            return first + VOICE_O2_N2;
-        case 9:
-            return first + VOICE_O1_N1;
-        case 10:
-            return WORD_W_ST;
-        case 11:
-            return WORD_W_END;
-        default:
-            return WORD_LR_END;
-        }
+        return word_of_upper(page, number);
     }
-
     /* Channel sums, and one empty place. */
-    if (number <= 11) {
-        return WORD_CHANNEL + number;
-    }
-    return NO_WORD;
+    return number <= 11 ? WORD_CHANNEL + number : NO_WORD;
 }
 
 /* Byte 0 is the highest of the four. */
@@ -286,12 +280,34 @@ uint32_t reference_write(uint32_t *record, size_t words, uint32_t address,
     return ANSWER_DONE;
 }
 
+/* Byte 0 of a register is read: all of it goes in the read latch. */
+static void take_register(uint32_t *record, uint32_t word)
+{
+    /* The channels and the empty place show as 0. */
+    if (word == NO_WORD || word >= WORD_CHANNEL) {
+        record[WORD_READ_LATCH] = 0;
+    } else {
+        record[WORD_READ_LATCH] = record[word];
+    }
+
+    /* Taking the pot result makes the register full scale again. */
+    if (word == WORD_PAR) {
+        record[WORD_PAR] = 1023;
+    }
+
+    /* Taking a waiting interrupt clears its voice's flag and frees the
+       vector. */
+    if (word == WORD_IRQV && record[WORD_IRQV] < VOICES) {
+        record[record[WORD_IRQV] * VOICE_WORDS + VOICE_CR] &= ~CR_IRQ;
+        record[WORD_IRQV] = NO_INTERRUPT;
+    }
+}
+
 uint32_t reference_read(uint32_t *record, size_t words, uint32_t address,
                         uint8_t *byte)
 {
     uint32_t number;
     uint32_t place;
-    uint32_t word;
     uint32_t answer = ask_record(record, words);
 
     *byte = 0;
@@ -303,29 +319,8 @@ uint32_t reference_read(uint32_t *record, size_t words, uint32_t address,
     }
     number = address / 4;
     place = address % 4;
-
     if (place == 0) {
-        word = word_of_register(record[WORD_PAGE], number);
-
-        /* The whole register goes in the read latch; the channels and the
-           empty place show as 0. */
-        if (word == NO_WORD || word >= WORD_CHANNEL) {
-            record[WORD_READ_LATCH] = 0;
-        } else {
-            record[WORD_READ_LATCH] = record[word];
-        }
-
-        /* Taking the pot result makes the register full scale again. */
-        if (word == WORD_PAR) {
-            record[WORD_PAR] = 1023;
-        }
-
-        /* Taking a waiting interrupt clears its voice's flag and frees the
-           vector. */
-        if (word == WORD_IRQV && record[WORD_IRQV] < VOICES) {
-            record[record[WORD_IRQV] * VOICE_WORDS + VOICE_CR] &= ~CR_IRQ;
-            record[WORD_IRQV] = NO_INTERRUPT;
-        }
+        take_register(record, word_of_register(record[WORD_PAGE], number));
     }
 
     /* Every byte comes out of the read latch. */
@@ -406,41 +401,45 @@ int64_t reference_high_pass(int64_t k, int64_t x, int64_t xp, int64_t yp)
     return hold(y, -131072, 131071);
 }
 
+/* Pole 3, of the kind that LP4 and LP3 choose. A high pass takes the last
+   output of the pole before it as its own last input. */
+static int64_t pole_3(const uint32_t *old, int64_t x, int64_t xp, int64_t yp)
+{
+    int64_t k1 = (int64_t)(old[VOICE_K1] / 16);
+    int64_t k2 = (int64_t)(old[VOICE_K2] / 16);
+
+    if ((old[VOICE_CR] & CR_LP3) != 0) {
+        return reference_low_pass(k1, x, yp);
+    }
+    if ((old[VOICE_CR] & CR_LP4) != 0) {
+        return reference_low_pass(k2, x, yp);
+    }
+    return reference_high_pass(k2, x, xp, yp);
+}
+
+/* Pole 4, of the kind that LP4 chooses. */
+static int64_t pole_4(const uint32_t *old, int64_t x, int64_t xp, int64_t yp)
+{
+    int64_t k2 = (int64_t)(old[VOICE_K2] / 16);
+
+    if ((old[VOICE_CR] & CR_LP4) != 0) {
+        return reference_low_pass(k2, x, yp);
+    }
+    return reference_high_pass(k2, x, xp, yp);
+}
+
 /* Four poles in a row; stores the filter words and gives pole 4's output. */
 static int64_t run_filters(const uint32_t *old, uint32_t *voice, int64_t x)
 {
     int64_t k1 = (int64_t)(old[VOICE_K1] / 16);
-    int64_t k2 = (int64_t)(old[VOICE_K2] / 16);
-    int lp3 = (old[VOICE_CR] & CR_LP3) != 0;
-    int lp4 = (old[VOICE_CR] & CR_LP4) != 0;
     int64_t old_o1 = signed_from_bits(old[VOICE_O1_N1], FILTER_BITS);
     int64_t old_o2 = signed_from_bits(old[VOICE_O2_N1], FILTER_BITS);
     int64_t old_o3 = signed_from_bits(old[VOICE_O3_N1], FILTER_BITS);
     int64_t old_o4 = signed_from_bits(old[VOICE_O4_N1], FILTER_BITS);
-    int64_t o1;
-    int64_t o2;
-    int64_t o3;
-    int64_t o4;
-
-    /* Poles 1 and 2: always low pass with K1. */
-    o1 = reference_low_pass(k1, x, old_o1);
-    o2 = reference_low_pass(k1, o1, old_o2);
-
-    /* Poles 3 and 4: chosen by LP4 and LP3 together. A high pass takes the
-       last output of the pole before it as its own last input. */
-    if (!lp4 && !lp3) {
-        o3 = reference_high_pass(k2, o2, old_o2, old_o3);
-        o4 = reference_high_pass(k2, o3, old_o3, old_o4);
-    } else if (!lp4 && lp3) {
-        o3 = reference_low_pass(k1, o2, old_o3);
-        o4 = reference_high_pass(k2, o3, old_o3, old_o4);
-    } else if (lp4 && !lp3) {
-        o3 = reference_low_pass(k2, o2, old_o3);
-        o4 = reference_low_pass(k2, o3, old_o4);
-    } else {
-        o3 = reference_low_pass(k1, o2, old_o3);
-        o4 = reference_low_pass(k2, o3, old_o4);
-    }
+    int64_t o1 = reference_low_pass(k1, x, old_o1);
+    int64_t o2 = reference_low_pass(k1, o1, old_o2);
+    int64_t o3 = pole_3(old, o2, old_o2, old_o3);
+    int64_t o4 = pole_4(old, o3, old_o3, old_o4);
 
     /* New outputs in the (n-1) words, the former ones in the (n-2) words. */
     voice[VOICE_O1_N1] = bits_from_signed(o1, FILTER_BITS);
@@ -487,73 +486,56 @@ static void add_volume(const uint32_t *old, uint32_t *record, int64_t o4)
 
 /* -- address -- */
 
-static void move_address(const uint32_t *old, uint32_t *voice)
+/* A loop event: the loop point was passed by d. forward is 1 or -1; other is
+   the point at the loop's far side. */
+static void loop_event(const uint32_t *old, uint32_t *voice, int64_t point,
+                       int64_t other, int64_t d, int64_t forward)
 {
     uint32_t cr = old[VOICE_CR];
-    int ignore = (cr & CR_LEI) != 0;
-    int reverse = (cr & CR_DIR) != 0;
     int ble = (cr & CR_BLE) != 0;
     int lpe = (cr & CR_LPE) != 0;
-    int64_t start = (int64_t)old[VOICE_START];
-    int64_t end = (int64_t)old[VOICE_END];
-    int64_t t; /* the next address, not yet wrapped */
-    int64_t d; /* how far it passed the loop point */
 
-    if (!reverse) {
-        t = (int64_t)old[VOICE_ACCUM] + (int64_t)old[VOICE_FC];
-        if (ignore || t <= end) {
-            voice[VOICE_ACCUM] = bits_from_signed(t, 32);
-            return;
-        }
-        d = t - end;
-        if (!ble && !lpe) {
-            /* No loop: rest on the end. */
-            voice[VOICE_ACCUM] = old[VOICE_END];
-            cr |= CR_STP0;
-        } else if (!ble && lpe) {
-            /* One-directional: on from the start. */
-            voice[VOICE_ACCUM] = bits_from_signed(start + d, 32);
-        } else if (ble && !lpe) {
-            /* Trans-wave: jump once, then run free. */
-            voice[VOICE_ACCUM] = bits_from_signed(start + d, 32);
-            cr &= ~CR_BLE;
-            cr |= CR_LEI;
-        } else {
-            /* Bi-directional: turn about at the end. */
-            voice[VOICE_ACCUM] = bits_from_signed(end - d, 32);
-            cr |= CR_DIR;
-        }
+    if (!ble && !lpe) {
+        /* No loop: rest on the point. */
+        voice[VOICE_ACCUM] = bits_from_signed(point, 32);
+        cr |= CR_STP0;
+    } else if (!ble && lpe) {
+        /* One-directional: on from the other point. */
+        voice[VOICE_ACCUM] = bits_from_signed(other + forward * d, 32);
+    } else if (ble && !lpe) {
+        /* Trans-wave: jump once, then run free. */
+        voice[VOICE_ACCUM] = bits_from_signed(other + forward * d, 32);
+        cr &= ~CR_BLE;
+        cr |= CR_LEI;
     } else {
-        t = (int64_t)old[VOICE_ACCUM] - (int64_t)old[VOICE_FC];
-        if (ignore || t >= start) {
-            voice[VOICE_ACCUM] = bits_from_signed(t, 32);
-            return;
-        }
-        d = start - t;
-        if (!ble && !lpe) {
-            /* No loop: rest on the start. */
-            voice[VOICE_ACCUM] = old[VOICE_START];
-            cr |= CR_STP0;
-        } else if (!ble && lpe) {
-            /* One-directional: on from the end. */
-            voice[VOICE_ACCUM] = bits_from_signed(end - d, 32);
-        } else if (ble && !lpe) {
-            /* Trans-wave: jump once, then run free. */
-            voice[VOICE_ACCUM] = bits_from_signed(end - d, 32);
-            cr &= ~CR_BLE;
-            cr |= CR_LEI;
-        } else {
-            /* Bi-directional: turn about at the start. */
-            voice[VOICE_ACCUM] = bits_from_signed(start + d, 32);
-            cr &= ~CR_DIR;
-        }
+        /* Bi-directional: turn about at the point. */
+        voice[VOICE_ACCUM] = bits_from_signed(point - forward * d, 32);
+        cr ^= CR_DIR;
     }
-
-    /* A loop event came about: flag it if the voice may interrupt. */
+    /* Flag it if the voice may interrupt. */
     if ((cr & CR_IRQE) != 0) {
         cr |= CR_IRQ;
     }
     voice[VOICE_CR] = cr;
+}
+
+static void move_address(const uint32_t *old, uint32_t *voice)
+{
+    int ignore = (old[VOICE_CR] & CR_LEI) != 0;
+    int reverse = (old[VOICE_CR] & CR_DIR) != 0;
+    int64_t start = (int64_t)old[VOICE_START];
+    int64_t end = (int64_t)old[VOICE_END];
+    int64_t accum = (int64_t)old[VOICE_ACCUM];
+    int64_t fc = (int64_t)old[VOICE_FC];
+    int64_t t = reverse ? accum - fc : accum + fc; /* not yet wrapped */
+
+    if (!ignore && !reverse && t > end) {
+        loop_event(old, voice, end, start, t - end, 1);
+    } else if (!ignore && reverse && t < start) {
+        loop_event(old, voice, start, end, start - t, -1);
+    } else {
+        voice[VOICE_ACCUM] = bits_from_signed(t, 32);
+    }
 }
 
 /* -- ramps -- */

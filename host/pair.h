@@ -1,0 +1,48 @@
+/*
+ * Two engines side by side: every call is made on both, each with buffers of
+ * its own, and everything that was lent is compared afterwards. The first
+ * difference is printed with the seed that repeats it and ends the program.
+ */
+#ifndef PAIR_H
+#define PAIR_H
+
+#include <stddef.h>
+#include <stdint.h>
+
+#include "engines.h"
+
+/* Lengths that can be lent are at most these. */
+#define MOST_RECORD 704u
+#define MOST_OUTPUT 32u
+#define MOST_MEMORY 8388609u
+
+struct pair_counts {
+    unsigned long bytes;    /* byte calls, refused or not */
+    unsigned long frames;   /* frames that were done */
+    unsigned long refusals; /* of every kind */
+    unsigned long codes;    /* samples compressed and codes expanded */
+};
+
+extern struct pair_counts pair_counts;
+
+/* Makes the buffers; sample memory is filled with noise. */
+void pair_open(const struct engine *one, const struct engine *other);
+
+/* The seed that a difference is reported under. */
+void pair_start(uint64_t seed);
+
+/* The record as the host sees it, and a word put there by the host itself. */
+uint32_t pair_word(uint32_t word);
+void pair_poke(uint32_t word, uint32_t value);
+
+/* The calls; words is the length lent, right-aligned on the same record. The
+   answers are given back. */
+uint32_t pair_reset(size_t words);
+uint32_t pair_write(size_t words, uint32_t address, uint8_t value);
+uint32_t pair_read(size_t words, uint32_t address);
+uint32_t pair_set_pot(size_t words, uint32_t pot);
+uint32_t pair_frame(size_t words, size_t memory_words, size_t output_values);
+void pair_compress(int16_t sample);
+void pair_expand(uint8_t code);
+
+#endif

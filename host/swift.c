@@ -1,0 +1,394 @@
+/*
+ * The engine in C as one would write it for speed: words of 32 bits, shifts
+ * for divisions, one pass over the record to check it, a table for codes. It
+ * makes the same checks as the library and is compared with the reference
+ * model too, so that the measure itself is known to be right.
+ *
+ * Shifting a negative number right is left to the compiler by the language;
+ * every compiler that this is for keeps the sign, which rounds down.
+ */
+#include <string.h>
+
+#include "reference.h"
+#include "swift.h"
+
+/* ==== the check =========================================================== */
+
+static const uint32_t voice_stray[VOICE_WORDS] = {
+    ~0xFFFFu,  ~0x1FFFFu, ~0xFFFFu,  ~0xFF00u,     ~0xFFFFu,
+    ~0xFF00u,  ~0x1FFu,   ~0xFFFFu,  ~0xFF01u,     ~0xFFFFu,
+    ~0xFF01u,  0x7FFu,    0x7Fu,     0u,           ~0x3FFFFu,
+    ~0x3FFFFu, ~0x3FFFFu, ~0x3FFFFu, ~0x3FFFFu,    ~0x3FFFFu
+};
+
+static const uint32_t shared_stray[RECORD_WORDS - WORD_PAGE] = {
+    ~0x7Fu,     ~0xFFu,     ~0x3FFu,    ~0x1Fu,     ~0x1Fu,     ~0x7Fu,
+    ~0x7Fu,     ~0x7Fu,     ~0x7u,      0u,         0u,         ~0x7FFFFFu,
+    ~0x7FFFFFu, ~0x7FFFFFu, ~0x7FFFFFu, ~0x7FFFFFu, ~0x7FFFFFu, ~0x7FFFFFu,
+    ~0x7FFFFFu, ~0x7FFFFFu, ~0x7FFFFFu, ~0x7FFFFFu, ~0x7FFFFFu
+};
+
+static uint32_t check(const uint32_t *record, size_t words)
+{
+    uint32_t stray = 0;
+    uint32_t vector;
+
+    if (words != RECORD_WORDS) {
+        return ANSWER_RECORD_LENGTH;
+    }
+    for (size_t voice = 0; voice < WORD_PAGE; voice += VOICE_WORDS) {
+        for (size_t word = 0; word < VOICE_WORDS; word++) {
+            stray |= record[voice + word] & voice_stray[word];
+        }
+    }
+    for (size_t word = WORD_PAGE; word < RECORD_WORDS; word++) {
+        stray |= record[word] & shared_stray[word - WORD_PAGE];
+    }
+    vector = record[WORD_IRQV];
+    if (stray != 0 || (vector >= VOICES && vector != NO_INTERRUPT)) {
+        return ANSWER_RECORD_INVALID;
+    }
+    return ANSWER_DONE;
+}
+
+/* ==== registers =========================================================== */
+
+uint32_t swift_reset(uint32_t *record, size_t words)
+{
+    if (words != RECORD_WORDS) {
+        return ANSWER_RECORD_LENGTH;
+    }
+    memset(record, 0, RECORD_WORDS * sizeof *record);
+    for (size_t voice = 0; voice < WORD_PAGE; voice += VOICE_WORDS) {
+        record[voice + VOICE_CR] = CR_STP0 | CR_STP1;
+    }
+    record[WORD_IRQV] = NO_INTERRUPT;
+    record[WORD_PAR] = 1023;
+    record[WORD_ACTV] = 31;
+    record[WORD_MODE] = 23;
+    return ANSWER_DONE;
+}
+
+/* The word behind a register, or RECORD_WORDS where there is none. */
+static uint32_t word_of(uint32_t page, uint32_t number)
+{
+    if (number >= 13) {
+        return number == 15 ? WORD_PAGE : number == 14 ? WORD_IRQV : WORD_PAR;
+    }
+    if (page < 32) {
+        return number < 11 ? page * VOICE_WORDS + number
+                           : WORD_ACTV - 11 + number;
+    }
+    if (page < 64) {
+        uint32_t first = (page - 32) * VOICE_WORDS;
+
+        return number == 0  ? first
+               : number < 10 ? first + 10 + number
+                             : WORD_W_ST - 10 + number;
+    }
+    return WORD_CHANNEL + number; /* number 12 is RECORD_WORDS */
+}
+
+uint32_t swift_write(uint32_t *record, size_t words, uint32_t address,
+                     uint8_t value)
+{
+    uint32_t answer = check(record, words);
+    uint32_t shift = 24 - 8 * (address & 3);
+    uint32_t latch;
+    uint32_t word;
+
+    if (answer != ANSWER_DONE) {
+        return answer;
+    }
+    if (address > ADDRESS_LIMIT) {
+        return ANSWER_ADDRESS;
+    }
+    latch = record[WORD_WRITE_LATCH];
+    latch = (latch & ~(0xFFu << shift)) | (uint32_t)value << shift;
+    if (shift != 0) {
+        record[WORD_WRITE_LATCH] = latch;
+        return ANSWER_DONE;
+    }
+    word = word_of(record[WORD_PAGE], address >> 2);
+    if (word < WORD_PAGE) {
+        record[word] = latch & ~voice_stray[word % VOICE_WORDS];
+    } else if (word < RECORD_WORDS && word != WORD_PAR && word != WORD_IRQV) {
+        record[word] = latch & ~shared_stray[word - WORD_PAGE];
+    }
+    record[WORD_WRITE_LATCH] = 0;
+    return ANSWER_DONE;
+}
+
+static void open_register(uint32_t *record, uint32_t word)
+{
+    record[WORD_READ_LATCH] = word < WORD_CHANNEL ? record[word] : 0;
+    if (word == WORD_PAR) {
+        record[WORD_PAR] = 1023;
+    } else if (word == WORD_IRQV && record[WORD_IRQV] < VOICES) {
+        record[record[WORD_IRQV] * VOICE_WORDS] &= ~CR_IRQ;
+        record[WORD_IRQV] = NO_INTERRUPT;
+    }
+}
+
+uint32_t swift_read(uint32_t *record, size_t words, uint32_t address,
+                    uint8_t *byte)
+{
+    uint32_t answer = check(record, words);
+
+    *byte = 0;
+    if (answer != ANSWER_DONE) {
+        return answer;
+    }
+    if (address > ADDRESS_LIMIT) {
+        return ANSWER_ADDRESS;
+    }
+    if ((address & 3) == 0) {
+        open_register(record, word_of(record[WORD_PAGE], address >> 2));
+    }
+    *byte = (uint8_t)(record[WORD_READ_LATCH] >> (24 - 8 * (address & 3)));
+    return ANSWER_DONE;
+}
+
+uint32_t swift_set_pot(uint32_t *record, size_t words, uint32_t pot)
+{
+    uint32_t answer = check(record, words);
+
+    if (answer != ANSWER_DONE) {
+        return answer;
+    }
+    if (pot > POT_LIMIT) {
+        return ANSWER_POT;
+    }
+    record[WORD_PAR] = pot;
+    return ANSWER_DONE;
+}
+
+/* ==== compressed samples ================================================== */
+
+#define STEP(e, m) ((int16_t)((m) * (1 << (3 + (e)))))
+#define HALF(e, m)                                                           \
+    STEP(e, m), STEP(e, m + 1), STEP(e, m + 2), STEP(e, m + 3),              \
+        STEP(e, m + 4), STEP(e, m + 5), STEP(e, m + 6), STEP(e, m + 7),      \
+        STEP(e, m + 8), STEP(e, m + 9), STEP(e, m + 10), STEP(e, m + 11),    \
+        STEP(e, m + 12), STEP(e, m + 13), STEP(e, m + 14), STEP(e, m + 15)
+#define OCTAVE(e) HALF(e, -32), HALF(e, 16)
+
+static const int16_t values[256] = {
+    HALF(1, 0), HALF(1, -16), OCTAVE(1), OCTAVE(2), OCTAVE(3),
+    OCTAVE(4),  OCTAVE(5),    OCTAVE(6), OCTAVE(7)
+};
+
+int16_t swift_expand(uint8_t code)
+{
+    return values[code];
+}
+
+uint8_t swift_compress(int16_t sample)
+{
+    uint32_t size = (uint32_t)(sample ^ (sample >> 15));
+    uint32_t top = size >> 8;
+    uint32_t exponent = top != 0 ? 32 - (uint32_t)__builtin_clz(top) : 0;
+    uint32_t shift = 3 + exponent + (exponent == 0);
+
+    return (uint8_t)(32 * exponent + ((uint32_t)(sample >> shift) & 31));
+}
+
+/* ==== one frame =========================================================== */
+
+/* The number that the low bits of a word mean in two's complement. */
+static int32_t number(uint32_t word, uint32_t bits)
+{
+    return (int32_t)(word << (32 - bits)) >> (32 - bits);
+}
+
+static int32_t hold(int32_t value, int32_t least, int32_t greatest)
+{
+    return value < least ? least : value > greatest ? greatest : value;
+}
+
+static int32_t fetch(const uint16_t *memory, size_t memory_words, uint32_t at,
+                     uint32_t cr)
+{
+    uint32_t word = at < memory_words ? memory[at] : 0;
+
+    return (cr & CR_CMPD) != 0 ? values[word >> 8] : (int16_t)word;
+}
+
+static int32_t sample_of(const uint32_t *voice, const uint16_t *memory,
+                         size_t memory_words)
+{
+    uint32_t cr = voice[VOICE_CR];
+    uint32_t accum = voice[VOICE_ACCUM];
+    uint32_t bank = (cr >> 14) * BANK_WORDS;
+    uint32_t index = accum >> 11;
+    uint32_t next = (index + 1) % BANK_WORDS;
+    int32_t s1 = fetch(memory, memory_words, bank + index, cr);
+    int32_t s2 = fetch(memory, memory_words, bank + next, cr);
+
+    return 4 * s1 + (((int32_t)(accum >> 2 & 511) * (s2 - s1)) >> 7);
+}
+
+static int32_t low(int32_t k, int32_t x, int32_t yp)
+{
+    return yp + ((k * (x - yp)) >> 12);
+}
+
+static int32_t high(int32_t k, int32_t x, int32_t xp, int32_t yp)
+{
+    return hold(x - xp + ((k * yp) >> 12), -131072, 131071);
+}
+
+static int32_t filter(uint32_t *voice, int32_t x)
+{
+    uint32_t cr = voice[VOICE_CR];
+    int32_t k1 = (int32_t)(voice[VOICE_K1] >> 4);
+    int32_t k2 = (int32_t)(voice[VOICE_K2] >> 4);
+    int32_t p2 = number(voice[VOICE_O2_N1], 18);
+    int32_t p3 = number(voice[VOICE_O3_N1], 18);
+    int32_t p4 = number(voice[VOICE_O4_N1], 18);
+    int32_t y1 = low(k1, x, number(voice[VOICE_O1_N1], 18));
+    int32_t y2 = low(k1, y1, p2);
+    int32_t y3 = (cr & CR_LP3) != 0   ? low(k1, y2, p3)
+                 : (cr & CR_LP4) != 0 ? low(k2, y2, p3)
+                                      : high(k2, y2, p2, p3);
+    int32_t y4 = (cr & CR_LP4) != 0 ? low(k2, y3, p4) : high(k2, y3, p3, p4);
+
+    voice[VOICE_O3_N2] = voice[VOICE_O3_N1];
+    voice[VOICE_O2_N2] = voice[VOICE_O2_N1];
+    voice[VOICE_O1_N1] = (uint32_t)y1 & 0x3FFFFu;
+    voice[VOICE_O2_N1] = (uint32_t)y2 & 0x3FFFFu;
+    voice[VOICE_O3_N1] = (uint32_t)y3 & 0x3FFFFu;
+    voice[VOICE_O4_N1] = (uint32_t)y4 & 0x3FFFFu;
+    return y4;
+}
+
+static void add(uint32_t *sum, int32_t o, uint32_t volume)
+{
+    int32_t scaled = (o * (int32_t)(256 + (volume >> 4 & 255))) >> 5;
+
+    *sum = (*sum + (uint32_t)(scaled >> (15 - (volume >> 12)))) & 0x7FFFFFu;
+}
+
+/* A voice passed a loop point: the new place, and CR with what that changes. */
+static void loop(uint32_t *voice, uint32_t stop, uint32_t other, uint32_t back)
+{
+    uint32_t cr = voice[VOICE_CR];
+
+    voice[VOICE_ACCUM] = other;
+    switch (cr & (CR_BLE | CR_LPE)) {
+    case 0:
+        voice[VOICE_ACCUM] = stop;
+        cr |= CR_STP0;
+        break;
+    case CR_BLE:
+        cr ^= CR_BLE | CR_LEI;
+        break;
+    case CR_BLE | CR_LPE:
+        voice[VOICE_ACCUM] = back;
+        cr ^= CR_DIR;
+        break;
+    }
+    voice[VOICE_CR] = cr | (cr & CR_IRQE) << 2;
+}
+
+static void move(uint32_t *voice)
+{
+    uint32_t cr = voice[VOICE_CR];
+    uint32_t start = voice[VOICE_START];
+    uint32_t end = voice[VOICE_END];
+    int64_t t = voice[VOICE_ACCUM];
+    uint32_t d;
+
+    if ((cr & CR_DIR) == 0) {
+        t += voice[VOICE_FC];
+        if ((cr & CR_LEI) == 0 && t > (int64_t)end) {
+            d = (uint32_t)t - end;
+            loop(voice, end, start + d, end - d);
+            return;
+        }
+    } else {
+        t -= voice[VOICE_FC];
+        if ((cr & CR_LEI) == 0 && t < (int64_t)start) {
+            d = start - (uint32_t)t;
+            loop(voice, start, end - d, start + d);
+            return;
+        }
+    }
+    voice[VOICE_ACCUM] = (uint32_t)t;
+}
+
+static void ramp(uint32_t *value, uint32_t by)
+{
+    int32_t step = (int8_t)(by >> 8);
+
+    *value = (uint32_t)hold((int32_t)*value + step, 0, 65535);
+}
+
+static void ramps(uint32_t *voice, uint32_t slow)
+{
+    if (voice[VOICE_ECOUNT] == 0) {
+        return;
+    }
+    voice[VOICE_ECOUNT] -= 1;
+    ramp(&voice[VOICE_LVOL], voice[VOICE_LVRAMP]);
+    ramp(&voice[VOICE_RVOL], voice[VOICE_RVRAMP]);
+    if (slow == 0 || (voice[VOICE_K1RAMP] & 1) == 0) {
+        ramp(&voice[VOICE_K1], voice[VOICE_K1RAMP]);
+    }
+    if (slow == 0 || (voice[VOICE_K2RAMP] & 1) == 0) {
+        ramp(&voice[VOICE_K2], voice[VOICE_K2RAMP]);
+    }
+}
+
+static void run(uint32_t *record, uint32_t *voice, const uint16_t *memory,
+                size_t memory_words)
+{
+    int32_t o4 = filter(voice, sample_of(voice, memory, memory_words));
+    uint32_t channel = voice[VOICE_CR] >> 10 & 7;
+
+    if (channel < 6) {
+        uint32_t *sums = record + WORD_CHANNEL + 2 * channel;
+
+        add(&sums[0], o4 >> 2, voice[VOICE_LVOL]);
+        add(&sums[1], o4 >> 2, voice[VOICE_RVOL]);
+    }
+    move(voice);
+    ramps(voice, record[WORD_SLOW]);
+}
+
+uint32_t swift_frame(uint32_t *record, size_t words, const uint16_t *memory,
+                     size_t memory_words, int32_t *output,
+                     size_t output_values)
+{
+    uint32_t answer = check(record, words);
+
+    if (answer != ANSWER_DONE) {
+        return answer;
+    }
+    if (memory_words > MEMORY_LIMIT) {
+        return ANSWER_MEMORY_LENGTH;
+    }
+    if (output_values != OUTPUT_VALUES) {
+        return ANSWER_OUTPUT_LENGTH;
+    }
+    for (uint32_t v = 0; v <= record[WORD_ACTV]; v++) {
+        uint32_t *voice = record + v * VOICE_WORDS;
+
+        if ((voice[VOICE_CR] & (CR_STP0 | CR_STP1)) == 0) {
+            run(record, voice, memory, memory_words);
+        } else {
+            filter(voice, 0);
+        }
+        if ((voice[VOICE_CR] & CR_IRQ) != 0 &&
+            record[WORD_IRQV] == NO_INTERRUPT) {
+            record[WORD_IRQV] = v;
+        }
+    }
+    for (size_t place = 0; place < OUTPUT_VALUES; place++) {
+        output[place] =
+            hold(number(record[WORD_CHANNEL + place], 23), -524288, 524287);
+        record[WORD_CHANNEL + place] = 0;
+    }
+    record[WORD_SLOW] = (record[WORD_SLOW] + 1) & 7;
+    return ANSWER_DONE;
+}

@@ -1,0 +1,20 @@
+/*
+ * The traces that two engines are compared on. Each ends the program at the
+ * first difference.
+ */
+#ifndef TRACES_H
+#define TRACES_H
+
+#include <stdint.h>
+
+/* Finds the bits each word keeps, by asking; before any other trace. */
+void trace_prepare(void);
+
+/* Everything that can be gone through one by one: codes, lengths, damage to
+   each word, each address on each page, loop points at their edges. */
+void trace_walks(void);
+
+/* Random calls; the seed fixes them all. */
+void trace_random(uint64_t seed);
+
+#endif

@@ -1,0 +1,108 @@
+/*
+ * libotto: the voice engine of the ES5506, for hosts in C and C++.
+ *
+ * The engine owns nothing. The host lends a machine record of 663 words to
+ * every call, and sample memory and an output to a frame; what a call does is
+ * fixed by what is lent and nothing else. There is no global state, no
+ * allocation, no file and no lock, so any number of records may be in use,
+ * and two threads may call at once if neither lends a buffer that the other
+ * one's call may change. Sample memory is only read: threads may share it.
+ *
+ * Every pointer must be aligned for its type, must point at as many values as
+ * the length after it says, and must not be null, even where that length is
+ * 0. Buffers of one call must not overlap.
+ *
+ * A call answers 0 or the number of its refusal. It asks in the order of the
+ * numbers, and a refused call changes no word of the record and no value of
+ * the output; a refused otto_read sets its byte to 0.
+ */
+#ifndef OTTO_H
+#define OTTO_H
+
+#include <stddef.h>
+#include <stdint.h>
+
+#ifdef __cplusplus
+extern "C" {
+#endif
+
+/* ---- sizes --------------------------------------------------------------- */
+
+#define OTTO_RECORD_WORDS      663u
+#define OTTO_OUTPUT_VALUES     12u      /* channels 0 to 5, left then right */
+#define OTTO_MOST_MEMORY_WORDS 8388608u /* four banks of 2,097,152 words */
+
+/* ---- answers ------------------------------------------------------------- */
+
+#define OTTO_DONE           0u
+#define OTTO_RECORD_LENGTH  1u /* the record is not 663 words */
+#define OTTO_RECORD_INVALID 2u /* a word has a bit or value it may not have */
+#define OTTO_ADDRESS        3u /* the byte address is above 63 */
+#define OTTO_POT            4u /* the pot result is above 1023 */
+#define OTTO_MEMORY_LENGTH  5u /* sample memory is longer than four banks */
+#define OTTO_OUTPUT_LENGTH  6u /* the output is not 12 values */
+
+/* ---- the machine --------------------------------------------------------- */
+
+/*
+ * Makes the record that of a machine after power-on, whatever it held: every
+ * voice stopped, page 0, no interrupt waiting. A new record needs this first.
+ *
+ * Refusals: 1.
+ */
+uint32_t otto_reset(uint32_t *record, size_t words);
+
+/*
+ * The host writes one byte. address is 4 x register + byte, byte 0 being the
+ * highest; the page register, number 15, says whose registers these are.
+ * Bytes gather in a latch, and byte 3 sends all four off: to write a register,
+ * write its bytes 0 to 3 in order.
+ *
+ * Refusals: 1, 2, 3.
+ */
+uint32_t otto_write(uint32_t *record, size_t words, uint32_t address,
+                    uint8_t value);
+
+/*
+ * The host reads one byte, into *byte. Reading byte 0 takes the whole register
+ * into a latch, and all four bytes are read from there: to read a register,
+ * read its bytes 0 to 3 in order. Byte 0 of the interrupt vector, register 14,
+ * also takes the waiting interrupt; byte 0 of the pot result, register 13,
+ * also takes the result. So this call changes the record.
+ *
+ * Refusals: 1, 2, 3.
+ */
+uint32_t otto_read(uint32_t *record, size_t words, uint32_t address,
+                   uint8_t *byte);
+
+/*
+ * Stores a result of the pot's converter, 0 to 1023, for the host to read.
+ *
+ * Refusals: 1, 2, 4.
+ */
+uint32_t otto_set_pot(uint32_t *record, size_t words, uint32_t pot);
+
+/*
+ * Runs one frame: a turn of each active voice. output takes twelve values of
+ * 20 bits, -524288 to 524287, in channel order, left before right. A voice
+ * that reads beyond the lent memory reads 0.
+ *
+ * Refusals: 1, 2, 5, 6.
+ */
+uint32_t otto_frame(uint32_t *record, size_t words, const uint16_t *memory,
+                    size_t memory_words, int32_t *output,
+                    size_t output_values);
+
+/* ---- compressed samples -------------------------------------------------- */
+
+/* The code with the greatest value that is not above the sample. */
+uint8_t otto_compress(int16_t sample);
+
+/* The value of a code. Compressed sample memory has codes in its high bytes. */
+int16_t otto_expand(uint8_t code);
+
+#ifdef __cplusplus
+}
+#endif
+
+#endif
