@@ -1,0 +1,16 @@
+-- Two outcomes that a C function's promise allows are equal. Assumes nothing.
+use mathlib.Core.Path.{_≡_, sym, _∙_}
+use mathlib.Core.List.{List}
+use Prim.Native.Nat.{ℕ}
+use lib.IntN.{ℤ}
+use Rattle.calls.specs.Calls.{Call}
+use Rattle.otto.specs.Promises.{Calls, Reading, Framing}
+
+pub one-call : {m : List ℕ} {c : Call} {a b : ℕ} {x y : List ℕ} → Calls m c a x → Calls m c b y → (a ≡ b) × (x ≡ y)
+one-call p q = (p .answers ∙ sym (q .answers), p .leaves ∙ sym (q .leaves))
+
+pub one-reading : {m : List ℕ} {address a b i j : ℕ} {x y : List ℕ} → Reading m address a i x → Reading m address b j y → (i ≡ j) × ((a ≡ b) × (x ≡ y))
+one-reading p q = (p .gives ∙ sym (q .gives), one-call (p .calls) (q .calls))
+
+pub one-framing : {m memory : List ℕ} {out : List ℤ} {a b : ℕ} {x y : List ℕ} {s t : List ℤ} → Framing m memory out a x s → Framing m memory out b y t → (s ≡ t) × ((a ≡ b) × (x ≡ y))
+one-framing p q = (p .sounds ∙ sym (q .sounds), one-call (p .calls) (q .calls))
