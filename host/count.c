@@ -10,13 +10,16 @@
 #include <stdint.h>
 #include <stdio.h>
 
-struct qemu_plugin_tb; /* a block of translated instructions */
+struct qemu_plugin_tb;   /* a block of translated instructions */
+struct qemu_plugin_insn; /* one of them */
 
 void qemu_plugin_register_vcpu_tb_trans_cb(
     uint64_t id, void (*call)(uint64_t id, struct qemu_plugin_tb *block));
-void qemu_plugin_register_vcpu_tb_exec_inline(struct qemu_plugin_tb *block,
-                                              int operation, void *counter,
-                                              uint64_t amount);
+void qemu_plugin_register_vcpu_insn_exec_inline(struct qemu_plugin_insn *one,
+                                                int operation, void *counter,
+                                                uint64_t amount);
+struct qemu_plugin_insn *
+qemu_plugin_tb_get_insn(const struct qemu_plugin_tb *block, size_t place);
 void qemu_plugin_register_atexit_cb(uint64_t id,
                                     void (*call)(uint64_t id, void *data),
                                     void *data);
@@ -30,12 +33,17 @@ int qemu_plugin_install(uint64_t id, const void *about, int words,
 
 static uint64_t counter;
 
-/* Each run of a block adds as many as the block has. */
+/* Each instruction adds one as it runs. The length of a block would not do: an
+   instruction that lies across two pages is counted in two blocks. */
 static void on_block(uint64_t id, struct qemu_plugin_tb *block)
 {
+    size_t length = qemu_plugin_tb_n_insns(block);
+
     (void)id;
-    qemu_plugin_register_vcpu_tb_exec_inline(
-        block, ADD_TO_COUNTER, &counter, qemu_plugin_tb_n_insns(block));
+    for (size_t i = 0; i < length; i++) {
+        qemu_plugin_register_vcpu_insn_exec_inline(
+            qemu_plugin_tb_get_insn(block, i), ADD_TO_COUNTER, &counter, 1);
+    }
 }
 
 static void on_end(uint64_t id, void *data)
