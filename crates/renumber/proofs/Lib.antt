@@ -1,3 +1,5 @@
 pub mod Sum
 pub mod Same
 pub mod Frame
+pub mod Stretch
+pub mod Theorem

@@ -33,16 +33,16 @@ same-then h k = record { control = λ b d. h .control b d ∙ k .control b d; ot
 
 -- ---- a store
 
-pub same-set : (w x : List ℕ) (j y : ℕ) → length w ≡ 20 → length x ≡ 20 → j < 20 → SameVoice w x → SameVoice (set w j y) (set x j y)
-same-set w x j y a b h s = record {
-  control = λ c d. at 0 (ℕ-discrete 0 j) (λ n. bitOf c n) (s .control c d);
-  others = λ i l k. at i (ℕ-discrete i j) (λ n. n) (s .others i l k);
+pub same-set : (w x : List ℕ) (j y : ℕ) → length w ≡ 20 → length x ≡ 20 → SameVoice w x → SameVoice (set w j y) (set x j y)
+same-set w x j y a b s = record {
+  control = λ c d. at 0 (lit< tt) (ℕ-discrete 0 j) (bitOf c) (s .control c d);
+  others = λ i l k. at i k (ℕ-discrete i j) (λ n. n) (s .others i l k);
 }
   where
     -- what is read of word i is the same after the store if it was before
-    at : (i : ℕ) → Dec (i ≡ j) → (f : ℕ → ℕ) → f (getD w i 0) ≡ f (getD x i 0) → f (getD (set w j y) i 0) ≡ f (getD (set x j y) i 0)
-    at i (yes e) f q = rw (e, getD-set-same w j y 0 (omega arith), getD-set-same x j y 0 (omega arith))
-    at i (no e) f q = rw (getD-set-other w j i y 0 e, getD-set-other x j i y 0 e) q
+    at : (i : ℕ) → i < 20 → Dec (i ≡ j) → (f : ℕ → ℕ) → f (getD w i 0) ≡ f (getD x i 0) → f (getD (set w j y) i 0) ≡ f (getD (set x j y) i 0)
+    at i h (yes e) f q = rw (e, getD-set-same w j y 0 (omega arith), getD-set-same x j y 0 (omega arith))
+    at i h (no e) f q = rw (getD-set-other w j i y 0 e, getD-set-other x j i y 0 e) q
 
 -- ---- a turn
 
