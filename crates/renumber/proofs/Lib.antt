@@ -3,3 +3,4 @@ pub mod Same
 pub mod Frame
 pub mod Stretch
 pub mod Theorem
+pub mod Corollaries

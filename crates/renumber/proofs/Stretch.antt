@@ -235,13 +235,13 @@ byte-moved {m} r k b s hr hk hb =
     rw (byte-written r k b s hr hk) (latch-moved (withByte k b (getD m WRITE 0)) s (byte-lt k b (getD m WRITE 0) (omega arith) hb (latch-lt s)))
 
 -- byte 3 stores the latch, and clears it
-last-written : {m : List ℕ} (r b i : ℕ) → Sound m → r < 16 → registerOf (getD m PAGE 0) r ≡ Word i
+pub last-written : {m : List ℕ} (r b i : ℕ) → Sound m → r < 16 → registerOf (getD m PAGE 0) r ≡ Word i
     → after m (Write (4 * r + 3) b) ≡ set (set m i (cut i (withByte 3 b (getD m WRITE 0)))) WRITE 0
 unfolding after written stored
 last-written {m} r b i s hr e = write-byte m r 3 b s hr (lit< tt) ∙ rw e
 
 -- any byte of PAGE
-page-named : (p : ℕ) → registerOf p 15 ≡ Word PAGE
+pub page-named : (p : ℕ) → registerOf p 15 ≡ Word PAGE
 unfolding registerOf
 page-named p = refl
 
