@@ -109,7 +109,7 @@ page-after {m} b s h =
     rw (last-written 15 b PAGE s (lit< tt) (page-named (getD m PAGE 0)))
     (getD-set-other (set m PAGE z) WRITE PAGE 0 0 (λ e. omega arith) ∙ getD-set-same m PAGE z 0 (omega (arith, s .size)) ∙ and-mask x 7 ∙ omega arith)
 
-one-write : {m : List ℕ} (p : Put) → Sound m → Fits p → Between m idle (writes p) (p ∷ [])
+pub one-write : {m : List ℕ} (p : Put) → Sound m → Fits p → Between m idle (writes p) (p ∷ [])
 unfolding writes
 one-write {m} p s f =
     let v = p .voice in
@@ -139,7 +139,7 @@ unfoldable pub logOf : List Step → Log
 logOf [] = End []
 logOf (f ∷ fs) = Then (f .puts) (f .memory) (logOf fs)
 
-frame-done : {m : List ℕ} (memory : List ℕ) (out : List ℤ) → Sound m → length memory ≤ 8388608 → length out ≡ 12 → answerTo m (Frame memory out) ≡ Done
+pub frame-done : {m : List ℕ} (memory : List ℕ) (out : List ℤ) → Sound m → length memory ≤ 8388608 → length out ≡ 12 → answerTo m (Frame memory out) ≡ Done
 unfolding answerTo
 frame-done {m} memory out s h k = not-refused-frame m memory out (check-valid m s) h k
 

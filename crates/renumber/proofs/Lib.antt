@@ -4,3 +4,4 @@ pub mod Frame
 pub mod Stretch
 pub mod Theorem
 pub mod Corollaries
+pub mod Example
