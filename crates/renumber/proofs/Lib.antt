@@ -5,3 +5,4 @@ pub mod Stretch
 pub mod Theorem
 pub mod Corollaries
 pub mod Example
+pub mod Needed
