@@ -1,5 +1,5 @@
 -- The poles keep 18 bits: a low pass lies between its input and its last output, and a high pass is held. Then poles 3 and 4 by
--- the bits that choose their kind. Assumes nothing.
+-- the bits that choose their kind, and that no other bit matters. Assumes nothing.
 use mathlib.Core.Path.{_≡_, refl, sym, ap, subst, _∙_}
 use Prim.Native.Nat.{ℕ, _+_, _-_, _*_, _/_, _<_, _≤_}
 use native.Mathlib.Nat.{mul-le-mul-left, mul-le-mul-right, le-of-lt}
@@ -12,7 +12,8 @@ use Rattle.numbers.proofs.Difference.{_⊖_, ⊖-eq, ⊖-add, ⊖-sub, ⊖-mul}
 use Rattle.numbers.proofs.Words.{biased, bits-⊖, floor-up, held-mag}
 use Rattle.numbers.proofs.Tests.{either}
 use Rattle.control.specs.Control.{flagOf, LP3, LP4}
-use Rattle.filter.specs.Filter.{lowPass, highPass, pole3, pole4}
+use Rattle.filter.specs.declared.Poles.{Poles}
+use Rattle.filter.specs.Filter.{lowPass, highPass, pole3, pole4, filtered}
 
 -- a low pass of two numbers that are each moved up by 131072
 low-⊖ : (k p q : ℕ) → k < 4096 → p < 262144 → q < 262144 → lowPass k (p ⊖ 131072) (q ⊖ 131072) ≡ (q + (k * p + (262144 * 4096 - k * q)) / 4096) ⊖ 393216
@@ -62,3 +63,9 @@ module _ (cr k₁ k₂ : ℕ) (x x′ y : ℤ) where
   pub pole3-zero : flagOf LP3 cr ≡ false → pole3 cr k₁ k₂ x x′ y ≡ pole4 cr k₂ x x′ y
   unfolding pole3 pole4
   pole3-zero t = rw t
+
+-- ---- the four outputs depend on those two bits of the control register alone
+
+pub filtered-passes : (c d K₁ K₂ : ℕ) (x : ℤ) (p : Poles) → flagOf LP3 c ≡ flagOf LP3 d → flagOf LP4 c ≡ flagOf LP4 d → filtered c K₁ K₂ x p ≡ filtered d K₁ K₂ x p
+unfolding filtered pole3 pole4
+filtered-passes c d K₁ K₂ x p e f = rw (e, f)

@@ -1,5 +1,5 @@
 -- A voice in the record: a word of it, and what a store and a put voice leave of each voice and of each other word.
--- In order: reading; a store; a put voice. Assumes nothing.
+-- In order: reading; a store; a put voice; a store above the voices. Assumes nothing.
 use mathlib.Core.Path.{_≡_, sym, ap, subst, _∙_}
 use mathlib.Core.List.{List, _++_}
 use mathlib.Core.Logic.{_≢_}
@@ -85,3 +85,8 @@ module _ (m : List ℕ) (v : ℕ) (w : List ℕ) (long : length w ≡ 20) (fits 
   put-other u h n =
       voice-same (putVoice m v w) m u u (omega (arith, put-length)) h
       (λ j k. put-out (20 * u + j) (λ a b. n (omega arith)))
+
+-- ---- the words above the voices
+
+pub voice-set-above : (m : List ℕ) (v i x : ℕ) → length m ≡ 663 → v < 32 → 640 ≤ i → voiceAt (set m i x) v ≡ voiceAt m v
+voice-set-above m v i x l h k = voice-set-out m v i x (omega arith) (λ j d e. omega arith)

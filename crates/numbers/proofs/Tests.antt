@@ -1,10 +1,11 @@
 -- Choices by a test, and a rule at each number below a bound by one computed test.
 -- In order: `either`, a fact of a choice from a fact of each side; `split`, the two cases of a test, and `cases`, those of an order;
 -- `all`, a test at each number below n, which antt computes, and `all-at`, the fact at one of them; `listed`, the list of a
--- function's values, which a constant table is compared with, and `listed-at`, its entry. Assumes nothing.
+-- function's values, which a constant table is compared with, and `listed-at`, its entry; `alongside`, a fact of two choices from a fact of
+-- the sides of each. Assumes nothing.
 use mathlib.Core.Path.{_≡_, refl, sym, ap, subst, _∙_}
 use mathlib.Core.List.{List, [], _∷_}
-use mathlib.Core.Bool.{Bool, true, false, cond}
+use mathlib.Core.Bool.{Bool, true, false, cond, false≢true}
 use Prim.Native.Nat.{ℕ, zero, suc, _+_, _<_, _≤_}
 use native.Mathlib.Nat.{not-suc-le-zero, le-of-suc-le-suc, add-zero, add-suc, suc-add}
 use native.Mathlib.Decide.{ℕ-discrete}
@@ -47,3 +48,10 @@ pub listed-at {ℓ} : {A : Type ℓ} (f : ℕ → A) (i n k : ℕ) (d : A) → k
 listed-at f i zero k d h = absurd (not-suc-le-zero h)
 listed-at f i (suc n) zero d h = ap f (sym (add-zero i))
 listed-at f i (suc n) (suc k) d h = listed-at f (suc i) n k d (le-of-suc-le-suc h) ∙ ap f (suc-add i k ∙ sym (add-suc i k))
+
+-- two choices by equal tests, side by side
+pub alongside {ℓ} : {A : Type ℓ} (P : A → A → Type 0) {b c : Bool} → b ≡ c → {x y x′ y′ : A} → P x x′ → P y y′ → P (cond b x y) (cond c x′ y′)
+alongside P {b = true} {c = true} e p q = p
+alongside P {b = true} {c = false} e p q = absurd (false≢true (sym e))
+alongside P {b = false} {c = true} e p q = absurd (false≢true e)
+alongside P {b = false} {c = false} e p q = q

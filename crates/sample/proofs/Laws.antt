@@ -1,6 +1,8 @@
--- What stands between two samples of 16 bits has 18. Then what a word stands for, by the bit that says how. Assumes nothing.
+-- What stands between two samples of 16 bits has 18. Then what a word stands for, by the bit that says how; and that no other bit matters
+-- to a fetch, but those of the bank. Assumes nothing.
 use mathlib.Core.Path.{_≡_, sym, ap, subst, _∙_}
 use mathlib.Core.Bool.{true, false}
+use mathlib.Core.List.{List}
 use Prim.Native.Nat.{ℕ, _+_, _-_, _*_, _/_, _<_, _≤_}
 use native.Mathlib.Nat.{mul-le-mul-left, mul-le-mul-right, le-of-lt}
 use native.Mathlib.Omega.{arith}
@@ -10,8 +12,8 @@ use Rattle.numbers.specs.Numbers.{floorDiv, signed, Bits}
 use Rattle.numbers.proofs.Difference.{_⊖_, ⊖-eq, ⊖-add, ⊖-sub, ⊖-mul}
 use Rattle.numbers.proofs.Words.{biased, bits-⊖, floor-up}
 use Rattle.codes.specs.Codes.{valueOf}
-use Rattle.control.specs.Control.{flagOf, CMPD}
-use Rattle.sample.specs.Sample.{sampleOf, between}
+use Rattle.control.specs.Control.{flagOf, bankOf, CMPD}
+use Rattle.sample.specs.Sample.{firstAt, secondAt, sampleOf, fetched, between}
 
 pub between-bits : (f : ℕ) (x y : ℤ) → f < 512 → Bits 16 x → Bits 16 y → Bits 18 (between f x y)
 unfolding between
@@ -40,3 +42,8 @@ compressed-word CR w t = rw t
 pub linear-word : (CR w : ℕ) → flagOf CMPD CR ≡ false → sampleOf CR w ≡ signed 16 w
 unfolding sampleOf
 linear-word CR w t = rw t
+
+-- a fetch depends on CMPD and the bank alone
+pub fetched-bank : (memory : List ℕ) (c d ACCUM : ℕ) → flagOf CMPD c ≡ flagOf CMPD d → bankOf c ≡ bankOf d → fetched memory c ACCUM ≡ fetched memory d ACCUM
+unfolding fetched sampleOf firstAt secondAt
+fetched-bank memory c d ACCUM e f = rw (e, f)

@@ -1,0 +1,256 @@
+-- What a turn leaves of each voice, of each sum and of each other word that it is not to touch; and what the closing leaves and puts out.
+-- In order: what a turn does with a voice's words, and what it adds to each sum; the parts of a turn; the turn; the closing; the output.
+-- Assumes nothing.
+use mathlib.Core.Path.{_≡_, refl, sym, ap, _∙_}
+use mathlib.Core.Bool.{true, false, cond, _&&_}
+use mathlib.Core.List.{List, [], _∷_, _++_, map}
+use mathlib.Core.Logic.{_≢_}
+use Prim.Native.Nat.{ℕ, _+_, _-_, _*_, _%_, _^_, _<_, _≤_}
+use native.Mathlib.Nat.{mod-eq-of-lt}
+use native.Mathlib.Omega.{arith}
+use borrow.Author.Tests.{eqb-true, eqb-false, ltb-true, ltb-false, ne-eqb}
+use lib.Bits.{bitAnd, and-mask}
+use lib.Dec.{eqb, ltb, lit<}
+use lib.IntN.{ℤ}
+use lib.ListN.{length, getD, set, take, drop, replicate, length-take, length-drop, length-append, length-set, length-map, getD-replicate, List·getD-append}
+use lib.Seq.{getD-take, getD-drop, getD-append-add, getD-set-same, getD-set-other, length-take-le, ext-getD}
+use Rattle.numbers.specs.Numbers.{word}
+use Rattle.numbers.proofs.Tests.{either, split, cases}
+use Rattle.control.specs.Control.{flagOf, channelOf, IRQ}
+use Rattle.channel.specs.Channel.{mixed, putOut}
+use Rattle.channel.proofs.Laws.{mixed-is}
+use Rattle.machine.specs.Words.{IRQV, ACTV, SLOW, SUMS, bitsOf, aboveBits, cut}
+use Rattle.machine.specs.Voices.{voiceAt, putVoice}
+use Rattle.machine.proofs.Parts.{voice-set-above, voice-same, put-length, put-same, put-other, put-out}
+use Rattle.machine.proofs.Valid.{Sound, sound-set, sound-put, sound-voice}
+use Rattle.voice.specs.Turn.{turnOf}
+use Rattle.frame.specs.Voices.{voiceOf, wordsOf}
+use Rattle.frame.specs.Frame.{summed, added, signalled, turned, turnAt, heard, silenced, closed}
+use Rattle.frame.proofs.Steps.{summed-length, summed-other}
+use Rattle.frame.proofs.Keeps.{sum-small, words-length, turn-cut}
+
+-- ---- what a turn does with a voice's words, and what it adds to each sum
+
+unfoldable pub wordsAfter : List ℕ → ℕ → List ℕ → List ℕ
+wordsAfter memory slow w = wordsOf (turnOf memory slow (voiceOf w) .voice)
+
+-- what sum i gets of what is added to a channel: its left sum, its right sum, another
+unfoldable pub portion : ℕ → ℤ → ℤ → ℕ → ℕ
+portion channel left right i = cond (eqb i (2 * channel)) (word 23 left) (cond (eqb i (2 * channel + 1)) (word 23 right) 0)
+
+unfoldable pub share : List ℕ → ℕ → List ℕ → ℕ → ℕ
+share memory slow w i = let t = turnOf memory slow (voiceOf w) in portion (channelOf (getD w 0 0)) (t .left) (t .right) i
+
+-- ---- the parts of a turn
+
+module _ (m : List ℕ) (v CR : ℕ) where
+  signalled-word : (i : ℕ) → i ≢ IRQV → getD (signalled m v CR) i 0 ≡ getD m i 0
+  unfolding signalled
+  signalled-word i h = either (λ r. getD r i 0 ≡ getD m i 0) (flagOf IRQ CR && eqb (getD m IRQV 0) 128) (set m IRQV v) m
+      (λ _. getD-set-other m IRQV i v 0 h) (λ _. refl)
+
+  signalled-voice : (u : ℕ) → length m ≡ 663 → u < 32 → voiceAt (signalled m v CR) u ≡ voiceAt m u
+  unfolding signalled
+  signalled-voice u l h = either (λ r. voiceAt r u ≡ voiceAt m u) (flagOf IRQ CR && eqb (getD m IRQV 0) 128) (set m IRQV v) m
+      (λ _. voice-set-above m u IRQV v l h (omega arith)) (λ _. refl)
+
+summed-voice : (m : List ℕ) (i : ℕ) (z : ℤ) (u : ℕ) → length m ≡ 663 → u < 32 → 640 ≤ i → voiceAt (summed m i z) u ≡ voiceAt m u
+unfolding summed
+summed-voice m i z u l h k = voice-set-above m u i (mixed (getD m i 0) (word 23 z)) l h k
+
+summed-same : (m : List ℕ) (i j : ℕ) (z : ℤ) → j ≡ i → i < length m → getD (summed m i z) j 0 ≡ (getD m j 0 + word 23 z) % 8388608
+unfolding summed
+summed-same m i j z e h = rw e (getD-set-same m i (mixed (getD m i 0) (word 23 z)) 0 h ∙ mixed-is (getD m i 0) (word 23 z))
+
+module _ (m : List ℕ) (channel : ℕ) (left right : ℤ) where
+  added-word : (i : ℕ) → i < SUMS → getD (added m channel left right) i 0 ≡ getD m i 0
+  unfolding added
+  added-word i h =
+      let n = summed m (SUMS + 2 * channel) left in
+      either (λ r. getD r i 0 ≡ getD m i 0) (ltb channel 6) (summed n (SUMS + 2 * channel + 1) right) m
+      (λ _. summed-other n (SUMS + 2 * channel + 1) i right (λ e. omega arith) ∙ summed-other m (SUMS + 2 * channel) i left (λ e. omega arith))
+      (λ _. refl)
+
+  added-voice : (u : ℕ) → length m ≡ 663 → u < 32 → voiceAt (added m channel left right) u ≡ voiceAt m u
+  unfolding added
+  added-voice u l h =
+      let n = summed m (SUMS + 2 * channel) left in
+      either (λ r. voiceAt r u ≡ voiceAt m u) (ltb channel 6) (summed n (SUMS + 2 * channel + 1) right) m
+      (λ _.
+      summed-voice n (SUMS + 2 * channel + 1) right u (summed-length m (SUMS + 2 * channel) left ∙ l) h (omega arith)
+      ∙ summed-voice m (SUMS + 2 * channel) left u l h (omega arith))
+      (λ _. refl)
+
+  added-length : length (added m channel left right) ≡ length m
+  unfolding added
+  added-length =
+      let n = summed m (SUMS + 2 * channel) left in
+      either (λ r. length r ≡ length m) (ltb channel 6) (summed n (SUMS + 2 * channel + 1) right) m
+      (λ _. summed-length n (SUMS + 2 * channel + 1) right ∙ summed-length m (SUMS + 2 * channel) left)
+      (λ _. refl)
+
+  module _ (s : Sound m) (i : ℕ) (h : i < 12) where
+    -- a sum that gets nothing is as it was, since it has 23 bits
+    nothing-added : getD m (SUMS + i) 0 ≡ (getD m (SUMS + i) 0 + 0) % 8388608
+    nothing-added = omega (arith, sum-small m s i h)
+
+    both-added : channel < 6 → getD (summed (summed m (SUMS + 2 * channel) left) (SUMS + 2 * channel + 1) right) (SUMS + i) 0
+        ≡ (getD m (SUMS + i) 0 + portion channel left right i) % 8388608
+    unfolding portion
+    both-added k =
+        let n = summed m (SUMS + 2 * channel) left in
+        let l : length n ≡ 663 = summed-length m (SUMS + 2 * channel) left ∙ s .size in
+        let P : ℕ → Type 0 = λ x. getD (summed n (SUMS + 2 * channel + 1) right) (SUMS + i) 0 ≡ (getD m (SUMS + i) 0 + x) % 8388608 in
+        either P (eqb i (2 * channel)) (word 23 left) (cond (eqb i (2 * channel + 1)) (word 23 right) 0)
+        (λ t.
+        let e = eqb-true i (2 * channel) t in
+        summed-other n (SUMS + 2 * channel + 1) (SUMS + i) right (λ q. omega arith) ∙ summed-same m (SUMS + 2 * channel) (SUMS + i) left (omega arith) (omega (arith, s .size)))
+        (λ t.
+        let e = eqb-false i (2 * channel) t in
+        let o = summed-other m (SUMS + 2 * channel) (SUMS + i) left (λ q. e (omega arith)) in
+        either P (eqb i (2 * channel + 1)) (word 23 right) 0
+        (λ u.
+        let f = eqb-true i (2 * channel + 1) u in
+        summed-same n (SUMS + 2 * channel + 1) (SUMS + i) right (omega arith) (omega arith) ∙ ap (λ (x : ℕ). (x + word 23 right) % 8388608) o)
+        (λ u.
+        let f = eqb-false i (2 * channel + 1) u in
+        summed-other n (SUMS + 2 * channel + 1) (SUMS + i) right (λ q. f (omega arith)) ∙ o ∙ nothing-added))
+
+    no-portion : 6 ≤ channel → portion channel left right i ≡ 0
+    unfolding portion
+    no-portion k = rw (ne-eqb i (2 * channel) (λ e. omega arith), ne-eqb i (2 * channel + 1) (λ e. omega arith))
+
+    added-sum : getD (added m channel left right) (SUMS + i) 0 ≡ (getD m (SUMS + i) 0 + portion channel left right i) % 8388608
+    unfolding added
+    added-sum = either (λ r. getD r (SUMS + i) 0 ≡ (getD m (SUMS + i) 0 + portion channel left right i) % 8388608) (ltb channel 6) _ m
+        (λ t. both-added (ltb-true channel 6 t))
+        (λ t. rw (no-portion (ltb-false channel 6 t)) nothing-added)
+
+-- ---- the turn of voice v
+
+module _ (memory : List ℕ) (v : ℕ) (m : List ℕ) (s : Sound m) (h : v < 32) where
+  -- the record with the voice's new words alone
+  put : List ℕ
+  put = putVoice m v (wordsAfter memory (getD m SLOW 0) (voiceAt m v))
+
+  long : length (wordsAfter memory (getD m SLOW 0) (voiceAt m v)) ≡ 20
+  unfolding wordsAfter
+  long = words-length (turnOf memory (getD m SLOW 0) (voiceOf (voiceAt m v)) .voice)
+
+  fits : 20 * v + 20 ≤ length m
+  fits = omega (arith, s .size)
+
+  put-size : length put ≡ 663
+  unfolding put
+  put-size = put-length m v (wordsAfter memory (getD m SLOW 0) (voiceAt m v)) long fits ∙ s .size
+
+  put-word : (i : ℕ) → 640 ≤ i → getD put i 0 ≡ getD m i 0
+  unfolding put
+  put-word i k = put-out m v (wordsAfter memory (getD m SLOW 0) (voiceAt m v)) long fits i (λ a b. omega arith)
+
+  put-sound : Sound put
+  unfolding put wordsAfter
+  put-sound = sound-put v (wordsAfter memory (getD m SLOW 0) (voiceAt m v)) s h long (turn-cut memory (getD m SLOW 0) (voiceAt m v) (λ j k. sound-voice m s v j h k))
+
+  -- the words between the vector and the sums stay
+  pub turn-word : (i : ℕ) → IRQV < i → i < SUMS → getD (turnAt memory v m) i 0 ≡ getD m i 0
+  unfolding turnAt turned put wordsAfter
+  turn-word i k l = signalled-word _ v _ i (λ e. omega arith) ∙ added-word _ _ _ _ i l ∙ put-word i (omega arith)
+
+  pub turn-sum : (i : ℕ) → i < 12 → getD (turnAt memory v m) (SUMS + i) 0 ≡ (getD m (SUMS + i) 0 + share memory (getD m SLOW 0) (voiceAt m v) i) % 8388608
+  unfolding turnAt turned put wordsAfter share
+  turn-sum i k =
+      signalled-word _ v _ (SUMS + i) (λ e. omega arith) ∙ added-sum _ _ _ _ put-sound i k
+      ∙ ap (λ (x : ℕ). (x + share memory (getD m SLOW 0) (voiceAt m v) i) % 8388608) (put-word (SUMS + i) (omega arith))
+
+  -- a voice after it, from the same voice with the new words put
+  turn-voice : (u : ℕ) → u < 32 → voiceAt (turnAt memory v m) u ≡ voiceAt put u
+  unfolding turnAt turned put wordsAfter
+  turn-voice u k = signalled-voice _ v _ u (added-length _ _ _ _ ∙ put-size) k ∙ added-voice _ _ _ _ u put-size k
+
+  pub turn-same : voiceAt (turnAt memory v m) v ≡ wordsAfter memory (getD m SLOW 0) (voiceAt m v)
+  unfolding put
+  turn-same = turn-voice v h ∙ put-same m v (wordsAfter memory (getD m SLOW 0) (voiceAt m v)) long fits
+
+  pub turn-other : (u : ℕ) → u < 32 → u ≢ v → voiceAt (turnAt memory v m) u ≡ voiceAt m u
+  unfolding put
+  turn-other u k d = turn-voice u k ∙ put-other m v (wordsAfter memory (getD m SLOW 0) (voiceAt m v)) long fits u (omega (arith, s .size)) d
+
+-- ---- the closing
+
+module _ (m : List ℕ) (s : Sound m) where
+  low-length : length (take SUMS m) ≡ SUMS
+  low-length = length-take-le SUMS m (omega (arith, s .size))
+
+  silenced-length : length (silenced m) ≡ 663
+  unfolding silenced
+  silenced-length = simp (length-append, low-length, length-drop) (omega (arith, s .size))
+
+  silenced-word : (i : ℕ) → i < SUMS → getD (silenced m) i 0 ≡ getD m i 0
+  unfolding silenced
+  silenced-word i h =
+      List·getD-append (take SUMS m) (replicate 12 0 ++ drop 12 (drop SUMS m)) 0 i (omega (arith, low-length)) ∙ getD-take SUMS m i 0 h
+
+  silenced-sum : (i : ℕ) → i < 12 → getD (silenced m) (SUMS + i) 0 ≡ 0
+  unfolding silenced
+  silenced-sum i h =
+      ap (λ (n : ℕ). getD (silenced m) (n + i) 0) (sym low-length)
+      ∙ getD-append-add (take SUMS m) (replicate 12 0 ++ drop 12 (drop SUMS m)) i 0
+      ∙ List·getD-append (replicate 12 0) (drop 12 (drop SUMS m)) 0 i h
+      ∙ getD-replicate 12 i 0 0 h
+
+  next : ℕ
+  next = (getD (silenced m) SLOW 0 + 1) % 8
+
+  pub closed-voice : (v : ℕ) → v < 32 → voiceAt (closed m) v ≡ voiceAt m v
+  unfolding closed next
+  closed-voice v h =
+      voice-set-above (silenced m) v SLOW next silenced-length h (omega arith)
+      ∙ voice-same (silenced m) m v v (omega (arith, silenced-length)) (omega (arith, s .size)) (λ j k. silenced-word (20 * v + j) (omega arith))
+
+  pub closed-active : getD (closed m) ACTV 0 ≡ getD m ACTV 0
+  unfolding closed next
+  closed-active = getD-set-other (silenced m) SLOW ACTV next 0 (λ e. omega arith) ∙ silenced-word ACTV (omega arith)
+
+  pub closed-slow : getD (closed m) SLOW 0 ≡ (getD m SLOW 0 + 1) % 8
+  unfolding closed next
+  closed-slow =
+      getD-set-same (silenced m) SLOW next 0 (omega (arith, silenced-length)) ∙ ap (λ (x : ℕ). (x + 1) % 8) (silenced-word SLOW (omega arith))
+
+  pub closed-sum : (i : ℕ) → i < 12 → getD (closed m) (SUMS + i) 0 ≡ 0
+  unfolding closed next
+  closed-sum i h = getD-set-other (silenced m) SLOW (SUMS + i) next 0 (λ e. omega arith) ∙ silenced-sum i h
+
+  silenced-sound : Sound (silenced m)
+  unfolding cut
+  silenced-sound = record {
+    size = silenced-length;
+    words = λ i h. cases i SUMS (bitAnd (getD (silenced m) i 0) (bitsOf i) ≡ getD (silenced m) i 0)
+        (λ l. rw (silenced-word i l) (s .words i h))
+        (λ l. let e : i ≡ SUMS + (i - SUMS) = omega arith in rw e (rw (silenced-sum (i - SUMS) (omega arith)) refl));
+    vector = rw (silenced-word IRQV (omega arith)) (s .vector);
+  }
+
+  pub sound-closed : Sound (closed m)
+  unfolding closed next cut bitsOf aboveBits
+  sound-closed =
+      sound-set SLOW next silenced-sound (omega arith)
+      (and-mask next 3 ∙ mod-eq-of-lt (omega arith)) (λ e. absurd (let y : ⊥ = omega arith in y))
+
+-- ---- the output
+
+sums-length : (m : List ℕ) → length m ≡ 663 → length (take 12 (drop SUMS m)) ≡ 12
+sums-length m h = length-take-le 12 (drop SUMS m) (simp length-drop (omega arith))
+
+pub heard-length : (m : List ℕ) → length m ≡ 663 → length (heard m) ≡ 12
+unfolding heard
+heard-length m h = length-map (take 12 (drop SUMS m)) putOut ∙ sums-length m h
+
+-- the same sums are heard the same
+pub heard-same : (m n : List ℕ) → length m ≡ 663 → length n ≡ 663 → ((i : ℕ) → i < 12 → getD m (SUMS + i) 0 ≡ getD n (SUMS + i) 0) → heard m ≡ heard n
+unfolding heard
+heard-same m n h k f = ap (map putOut)
+    (ext-getD 0 (take 12 (drop SUMS m)) (take 12 (drop SUMS n)) (sums-length m h ∙ sym (sums-length n k))
+    (λ i l.
+    let d : i < 12 = omega (arith, sums-length m h) in
+    getD-take 12 (drop SUMS m) i 0 d ∙ getD-drop SUMS m i 0 ∙ f i d ∙ sym (getD-take 12 (drop SUMS n) i 0 d ∙ getD-drop SUMS n i 0)))

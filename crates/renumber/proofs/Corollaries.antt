@@ -1,0 +1,229 @@
+-- What follows for a plain host, whose calls are those of a score: played on other voices the score sounds the same, and so it does when two
+-- voices are written in the other order.
+-- In order: a trace's parts put together; the calls of a write; a score is a trace; scores that are alike; the two corollaries.
+-- Assumes nothing.
+use mathlib.Core.Path.{_≡_, refl, sym, ap, subst, _∙_}
+use mathlib.Core.Logic.{_≢_}
+use mathlib.Core.Bool.{true, cond}
+use mathlib.Core.List.{List, [], _∷_, _++_, map}
+use Prim.Native.Nat.{ℕ, _+_, _-_, _*_, _/_, _%_, _^_, _<_, _≤_}
+use native.Mathlib.Decide.{ℕ-discrete}
+use native.Mathlib.Omega.{arith}
+use lib.Bits.{and-mask}
+use lib.Dec.{eqb, ltb, lit<}
+use lib.IntN.{ℤ, pos}
+use lib.ListN.{length, getD, set, replicate}
+use lib.Seq.{getD-set-same, getD-set-other}
+use borrow.Author.Tests.{eq-eqb, ne-eqb, lt-ltb, le-ltb}
+use Rattle.numbers.proofs.Tests.{cases}
+use Rattle.answer.specs.declared.Answer.the-variants.{Done}
+use Rattle.machine.specs.Words.{PAGE, WRITE, ACTV, wordOf, aboveBits, bitsOf, cut, valid}
+use Rattle.machine.proofs.Valid.{Sound, sound}
+use Rattle.machine.proofs.Answers.{check-valid}
+use Rattle.registers.specs.Registers.{registerOf, lowPage, highPage, byteOf, withByte}
+use Rattle.registers.specs.declared.Register.the-variants.{Word}
+use Rattle.frame.proofs.Calls.{not-refused-frame}
+use Rattle.calls.specs.Calls.{Call, Write, Frame, answerTo, after, run, outputs}
+use Rattle.renumber.specs.Demand.{Renumbering, Match, SameVoice, Put, ofVoice, Phase, idle, begun, Between, nothing, reading, potting, refused, paging, first, next, last}
+use Rattle.renumber.specs.Demand.{Log, End, Then, Trace, stop, go-on, SameWrites, Alike}
+use Rattle.renumber.specs.Score.{pageOf, placeOf, writes, allWrites, Step, callsOf, putOn, stepOn, Fits, AllFit, Playable}
+use Rattle.renumber.proofs.Same.{same-equal}
+use Rattle.renumber.proofs.Stretch.{between, last-written, page-named}
+use Rattle.renumber.proofs.Frame.{frame-sound}
+use Rattle.renumber.proofs.Theorem.{inaudible}
+
+-- ---- parts put together
+
+pub one-after-other : {m : List ℕ} {φ : Phase} {t u : List Call} {ps qs : List Put} → Between m φ t ps → Between (run m t) idle u qs → Between m φ (t ++ u) (ps ++ qs)
+unfolding run
+one-after-other nothing e = e
+one-after-other (reading a d) e = reading a (one-after-other d e)
+one-after-other (potting p d) e = potting p (one-after-other d e)
+one-after-other (refused a b l d) e = refused a b l (one-after-other d e)
+one-after-other (paging k b hk hb d) e = paging k b hk hb (one-after-other d e)
+one-after-other (first r v j b hr hv hj hb n d) e = first r v j b hr hv hj hb n (one-after-other d e)
+one-after-other (next b hk hb d) e = next b hk hb (one-after-other d e)
+one-after-other (last b hb d) e = last b hb (one-after-other d e)
+
+-- ---- the calls of a write
+
+byte-lt : (k x : ℕ) → byteOf k x < 256
+unfolding byteOf
+byte-lt k x = omega arith
+
+-- four bytes make their number
+one-byte : (x : ℕ) → 256 * (x / 256) + x % 256 ≡ x
+one-byte x = omega arith
+
+four-bytes : (x : ℕ) → x < 2 ^ 32 → 256 * (256 * (256 * byteOf 0 x + byteOf 1 x) + byteOf 2 x) + byteOf 3 x ≡ x
+unfolding byteOf
+four-bytes x h =
+    let a : byteOf 0 x ≡ x / 256 / 256 / 256 = omega arith in
+    let b : byteOf 1 x ≡ x / 256 / 256 % 256 = omega arith in
+    let c : byteOf 3 x ≡ x % 256 = omega arith in
+    rw (a, b, c, one-byte (x / 256 / 256), one-byte (x / 256)) (one-byte x)
+
+page-lt : (v j : ℕ) → v < 32 → pageOf v j < 64
+unfolding pageOf
+page-lt v j h = cases j 11 (cond (ltb j 11) v (32 + v) < 64) (λ l. rw (lt-ltb j 11 l) (omega arith)) (λ l. rw (le-ltb j 11 l) (omega arith))
+
+place-lt : (j : ℕ) → j < 20 → placeOf j < 16
+unfolding placeOf
+place-lt j h = cases j 11 (cond (ltb j 11) j (j - 10) < 16) (λ l. rw (lt-ltb j 11 l) (omega arith)) (λ l. rw (le-ltb j 11 l) (omega arith))
+
+-- that page and register name that word
+named : (v j : ℕ) → v < 32 → j < 20 → registerOf (pageOf v j) (placeOf j) ≡ Word (wordOf v j)
+unfolding pageOf placeOf registerOf lowPage highPage
+named v j h k = cases j 11 _
+    (λ l.
+    rw (
+      lt-ltb j 11 l,
+      ne-eqb j 13 (λ e. omega arith),
+      ne-eqb j 14 (λ e. omega arith),
+      ne-eqb j 15 (λ e. omega arith),
+      lt-ltb v 32 h,
+      lt-ltb j 11 l,
+    ))
+    (λ l.
+    let e : 10 + (j - 10) ≡ j = omega arith in
+    let f : 32 + v - 32 ≡ v = omega arith in
+    rw (
+      le-ltb j 11 l,
+      ne-eqb (j - 10) 13 (λ e. omega arith),
+      ne-eqb (j - 10) 14 (λ e. omega arith),
+      ne-eqb (j - 10) 15 (λ e. omega arith),
+      le-ltb (32 + v) 32 (omega arith),
+      lt-ltb (32 + v) 64 (omega arith),
+      ne-eqb (j - 10) 0 (λ e. omega arith),
+      lt-ltb (j - 10) 10 (omega arith),
+      e,
+      f,
+    ))
+
+-- PAGE after its lowest byte was written
+page-after : {m : List ℕ} (b : ℕ) → Sound m → b < 128 → getD (after m (Write (4 * 15 + 3) b)) PAGE 0 ≡ b
+unfolding cut bitsOf aboveBits withByte
+page-after {m} b s h =
+    let x = withByte 3 b (getD m WRITE 0) in
+    let z = cut PAGE x in
+    rw (last-written 15 b PAGE s (lit< tt) (page-named (getD m PAGE 0)))
+    (getD-set-other (set m PAGE z) WRITE PAGE 0 0 (λ e. omega arith) ∙ getD-set-same m PAGE z 0 (omega (arith, s .size)) ∙ and-mask x 7 ∙ omega arith)
+
+pub one-write : {m : List ℕ} (p : Put) → Sound m → Fits p → Between m idle (writes p) (p ∷ [])
+unfolding writes
+one-write {m} p s f =
+    let v = p .voice in
+    let j = p .word in
+    let x = p .number in
+    let hv = f .voice in
+    let hj = f .word in
+    let hp = page-lt v j hv in
+    let e : registerOf (getD (after m (Write (4 * 15 + 3) (pageOf v j))) PAGE 0) (placeOf j) ≡ Word (wordOf v j) = rw (page-after (pageOf v j) s (omega arith)) (named v j hv hj) in
+    let q : _≡_ {A = Put} (record { voice = v; word = j; number = 256 * (256 * (256 * byteOf 0 x + byteOf 1 x) + byteOf 2 x) + byteOf 3 x }) p =
+    λ i. record { voice = v; word = j; number = four-bytes x (f .number) i } in
+    subst (λ (y : Put). Between m idle (writes p) (y ∷ [])) q
+    (paging 3 (pageOf v j) (lit< tt) (omega arith)
+    (first (placeOf j) v j (byteOf 0 x) (place-lt j hj) hv hj (byte-lt 0 x) e
+    (next {k = 1} (byteOf 1 x) (lit< tt) (byte-lt 1 x)
+    (next {k = 2} (byteOf 2 x) (lit< tt) (byte-lt 2 x)
+    (last (byteOf 3 x) (byte-lt 3 x) nothing)))))
+
+all-writes : {m : List ℕ} (ps : List Put) → Sound m → AllFit ps → Between m idle (allWrites ps) ps
+unfolding allWrites
+all-writes [] s f = nothing
+all-writes (p ∷ ps) s f = let d = one-write p s (f .0) in one-after-other d (all-writes ps (between s d .sound) (f .1))
+
+-- ---- a score is a trace
+
+unfoldable pub logOf : List Step → Log
+logOf [] = End []
+logOf (f ∷ fs) = Then (f .puts) (f .memory) (logOf fs)
+
+pub frame-done : {m : List ℕ} (memory : List ℕ) (out : List ℤ) → Sound m → length memory ≤ 8388608 → length out ≡ 12 → answerTo m (Frame memory out) ≡ Done
+unfolding answerTo
+frame-done {m} memory out s h k = not-refused-frame m memory out (check-valid m s) h k
+
+pub score-trace : {m : List ℕ} (fs : List Step) → Sound m → Playable fs → Trace m (callsOf fs) (logOf fs)
+unfolding callsOf logOf
+score-trace [] s h = stop nothing
+score-trace {m} (f ∷ fs) s h =
+    let d = all-writes (f .puts) s (h .0) in
+    let s₁ = between s d .sound in
+    let a = frame-done (f .memory) (replicate 12 (pos 0)) s₁ (h .1) refl in
+    go-on (f .memory) (replicate 12 (pos 0)) d a (score-trace fs (frame-sound (run m (allWrites (f .puts))) (f .memory) (replicate 12 (pos 0)) a s₁) (h .2))
+
+-- ---- scores that are alike
+
+module _ (s : ℕ → ℕ) (active : ℕ) (R : Renumbering active s) where
+  -- a voice and the voice that it becomes get the same writes
+  writes-on : (ps : List Put) → AllFit ps → SameWrites s ps (map (putOn s) ps)
+  unfolding putOn
+  writes-on [] f v h = refl
+  writes-on (p ∷ ps) f v h = at (ℕ-discrete v (p .voice)) (writes-on ps (f .1) v h)
+    where
+      at : Dec (v ≡ p .voice) → ofVoice v ps ≡ ofVoice (s v) (map (putOn s) ps) → ofVoice v (p ∷ ps) ≡ ofVoice (s v) (map (putOn s) (p ∷ ps))
+      at (yes e) q = rw (eq-eqb v (p .voice) e, eq-eqb (s v) (s (p .voice)) (ap s e), q)
+      at (no e) q = rw (ne-eqb v (p .voice) e, ne-eqb (s v) (s (p .voice)) (λ z. e (R .one-to-one v (p .voice) h (f .0 .voice) z)), q)
+
+  score-on : (fs : List Step) → Playable fs → Alike s (logOf fs) (logOf (map (stepOn s) fs))
+  unfolding logOf stepOn
+  score-on [] h = λ v l. refl
+  score-on (f ∷ fs) h = (writes-on (f .puts) (h .0), refl, score-on fs (h .2))
+
+  fits-on : (ps : List Put) → AllFit ps → AllFit (map (putOn s) ps)
+  unfolding putOn
+  fits-on [] f = tt
+  fits-on (p ∷ ps) f = (record { voice = R .into (p .voice) (f .0 .voice); word = f .0 .word; number = f .0 .number }, fits-on ps (f .1))
+
+  playable-on : (fs : List Step) → Playable fs → Playable (map (stepOn s) fs)
+  unfolding stepOn
+  playable-on [] h = tt
+  playable-on (f ∷ fs) h = (fits-on (f .puts) (h .0), h .1, playable-on fs (h .2))
+
+-- ---- the corollaries
+
+-- A score played on other voices sounds the same, and leaves each voice as it would have left the other.
+pub on-other-voices : (s : ℕ → ℕ) (m n : List ℕ) → valid m ≡ true → valid n ≡ true → Renumbering (getD m ACTV 0) s → Match s m n
+    → (fs : List Step) → Playable fs
+    → (outputs m (callsOf fs) ≡ outputs n (callsOf (map (stepOn s) fs))) × Match s (run m (callsOf fs)) (run n (callsOf (map (stepOn s) fs)))
+on-other-voices s m n vm vn R M fs h =
+    let r = inaudible s m n vm vn R M (callsOf fs) (callsOf (map (stepOn s) fs)) (logOf fs) (logOf (map (stepOn s) fs))
+    (score-trace fs (sound m vm) h) (score-trace (map (stepOn s) fs) (sound n vn) (playable-on s (getD m ACTV 0) R fs h))
+    (score-on s (getD m ACTV 0) R fs h) in
+    (r .1, r .2)
+
+itself : ℕ → ℕ
+itself v = v
+
+score-itself : (fs : List Step) → Alike itself (logOf fs) (logOf fs)
+unfolding logOf itself
+score-itself [] = λ v h. refl
+score-itself (f ∷ fs) = ((λ v h. refl), refl, score-itself fs)
+
+nothing-renumbered : (active : ℕ) → Renumbering active itself
+unfolding itself
+nothing-renumbered active = record { into = λ v h. h; one-to-one = λ v u h k e. e; stays-active = λ v h. h }
+
+matches-itself : (m : List ℕ) → Match itself m m
+unfolding itself
+matches-itself m = record { voices = λ v h. same-equal refl; active = refl; slow = refl; sums = λ c h. refl }
+
+-- Two voices may be written in either order.
+pub in-either-order : (m : List ℕ) → valid m ≡ true → (p q : Put) → p .voice ≢ q .voice → Fits p → Fits q → (memory : List ℕ) → length memory ≤ 8388608
+    → (fs : List Step) → Playable fs
+    → outputs m (callsOf (record { puts = p ∷ q ∷ []; memory = memory } ∷ fs)) ≡ outputs m (callsOf (record { puts = q ∷ p ∷ []; memory = memory } ∷ fs))
+unfolding logOf itself
+in-either-order m vm p q d hp hq memory l fs h =
+    let a : List Step = record { puts = p ∷ q ∷ []; memory = memory } ∷ fs in
+    let b : List Step = record { puts = q ∷ p ∷ []; memory = memory } ∷ fs in
+    inaudible itself m m vm vm (nothing-renumbered (getD m ACTV 0)) (matches-itself m) (callsOf a) (callsOf b) (logOf a) (logOf b)
+    (score-trace a (sound m vm) ((hp, (hq, tt)), l, h)) (score-trace b (sound m vm) ((hq, (hp, tt)), l, h)) (either, refl, score-itself fs) .1
+  where
+    either : SameWrites itself (p ∷ q ∷ []) (q ∷ p ∷ [])
+    either v h = at (ℕ-discrete v (p .voice)) (ℕ-discrete v (q .voice))
+      where
+        at : Dec (v ≡ p .voice) → Dec (v ≡ q .voice) → ofVoice v (p ∷ q ∷ []) ≡ ofVoice v (q ∷ p ∷ [])
+        at (yes e) (yes f) = absurd (d (sym e ∙ f))
+        at (yes e) (no f) = rw (eq-eqb v (p .voice) e, ne-eqb v (q .voice) f)
+        at (no e) (yes f) = rw (ne-eqb v (p .voice) e, eq-eqb v (q .voice) f)
+        at (no e) (no f) = rw (ne-eqb v (p .voice) e, ne-eqb v (q .voice) f)

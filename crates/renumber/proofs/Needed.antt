@@ -1,0 +1,74 @@
+-- What the theorem asks is needed: without it the same note sounds otherwise. Each case is computed on the machines of the example, and
+-- compares the first of the twelve values.
+-- In order: how loud each case is; that the note sounds; then, each as what may not differ, the sample memory, a write that is no voice's,
+-- an active voice that becomes an inactive one, and a channel sum. Assumes nothing.
+use mathlib.Core.Path.{_≡_, refl, ap}
+use mathlib.Core.Logic.{_≢_}
+use mathlib.Core.List.{List, [], _∷_}
+use Prim.Native.Nat.{ℕ, _<_}
+use native.Mathlib.Omega.{arith}
+use lib.IntN.{ℤ, pos, natAbs}
+use lib.ListN.{getD, set, replicate}
+use Rattle.numbers.specs.Numbers.{floorDiv, floorMod, signed, word, held}
+use Rattle.control.specs.Control.{bitOf, flagOf, withBit, runs, IRQ}
+use Rattle.sample.specs.Sample.{firstAt, secondAt, sampleOf, fetched, fraction, between}
+use Rattle.filter.specs.Filter.{lowPass, highPass, coefficient, pole3, pole4, filtered}
+use Rattle.volume.specs.Volume.{mantissa, exponent, volumeOf, panned}
+use Rattle.channel.specs.Channel.{mixed, putOut}
+use Rattle.address.specs.Address.{raised, event, forward, reverse, stepped}
+use Rattle.machine.specs.Words.{PAGE, ACTV, SUMS, voiceBits, aboveBits, bitsOf, cut, cutTo, isVector, valid, wordOf}
+use Rattle.machine.specs.Voices.{voiceAt, putVoice}
+use Rattle.machine.specs.Calls.{sized, checked, resetWord, wordsFrom, fresh}
+use Rattle.registers.specs.Registers.{registerOf, lowPage, highPage, sumPage, withByte, stored, written}
+use Rattle.registers.specs.Calls.{byteAnswer, writeRecord}
+use Rattle.voice.specs.Turn.{levels, withOutputs, moved, sampled, stoppedTurn, runningTurn, turnOf, outputs as lastOutputs}
+use Rattle.frame.specs.Voices.{wordsOf}
+use Rattle.frame.specs.Frame.{summed, added, signalled, turned, turnAt, turns, heard, silenced, closed, played, frameAnswer, frameRecord, frameOutput}
+use Rattle.calls.specs.Calls.{Call, Write, Frame, after, outputFrom, run, outputs}
+use Rattle.renumber.proofs.Example.{note, machine, one, other}
+
+-- a frame over sample memory that holds one value; and how loud a run is on the left of channel 0, in its first frame
+unfoldable pub frame : ℕ → Call
+frame x = Frame (x ∷ x ∷ []) (replicate 12 (pos 0))
+
+unfoldable pub loudness : List ℤ → ℕ
+loudness out = natAbs (getD out 0 (pos 0))
+
+-- ACTV is written, to 0: page 0 is set, and then register 11
+unfoldable pub silence : List Call
+silence = Write 63 0 ∷ Write 44 0 ∷ Write 45 0 ∷ Write 46 0 ∷ Write 47 0 ∷ frame 1000 ∷ []
+
+pub computed :
+    (loudness (outputs one (frame 1000 ∷ [])) ≡ 15952)
+    × (loudness (outputs other (frame 1000 ∷ [])) ≡ 15952)
+    × (loudness (outputs other (frame 2000 ∷ [])) ≡ 31905)
+    × (loudness (outputs other silence) ≡ 0)
+    × (loudness (outputs (set one ACTV 3) (frame 1000 ∷ [])) ≡ 15952)
+    × (loudness (outputs (set other ACTV 3) (frame 1000 ∷ [])) ≡ 0)
+    × (loudness (outputs (set other SUMS 1) (frame 1000 ∷ [])) ≡ 15953)
+unfolding frame loudness silence one other machine note putVoice voiceAt fresh wordsFrom resetWord valid cutTo cut bitsOf voiceBits aboveBits isVector sized checked outputs outputFrom after byteAnswer writeRecord written stored withByte registerOf lowPage highPage sumPage frameAnswer frameRecord frameOutput played turns turnAt turned added summed signalled mixed putOut heard silenced closed wordsOf turnOf runningTurn stoppedTurn withOutputs moved levels lastOutputs sampled fetched fraction between sampleOf firstAt secondAt floorDiv floorMod signed word held filtered pole3 pole4 lowPass highPass coefficient panned volumeOf mantissa exponent stepped forward reverse event raised runs flagOf bitOf withBit
+computed = (refl, refl, refl, refl, refl, refl, refl)
+
+-- two runs that are not equally loud do not put out the same
+differ : (x y : List ℤ) → loudness x ≢ loudness y → x ≢ y
+differ x y h e = h (ap loudness e)
+
+-- the note sounds, so the theorem does not speak of silence alone
+pub note-sounds : 0 < loudness (outputs one (frame 1000 ∷ []))
+note-sounds = omega (arith, computed .0)
+
+-- each frame gets the same sample memory
+pub memory-needed : outputs one (frame 1000 ∷ []) ≢ outputs other (frame 2000 ∷ [])
+memory-needed = differ (outputs one (frame 1000 ∷ [])) (outputs other (frame 2000 ∷ [])) (λ e. omega (arith, computed .0, computed .2))
+
+-- only voices' registers and the page are written: not ACTV
+pub voices-needed : outputs one (frame 1000 ∷ []) ≢ outputs other silence
+voices-needed = differ (outputs one (frame 1000 ∷ [])) (outputs other silence) (λ e. omega (arith, computed .0, computed .3))
+
+-- active voices are mapped to active voices: where voices 0 to 3 are active, voice 5 is not
+pub active-needed : outputs (set one ACTV 3) (frame 1000 ∷ []) ≢ outputs (set other ACTV 3) (frame 1000 ∷ [])
+active-needed = differ (outputs (set one ACTV 3) (frame 1000 ∷ [])) (outputs (set other ACTV 3) (frame 1000 ∷ [])) (λ e. omega (arith, computed .4, computed .5))
+
+-- channel sums are equal
+pub sums-needed : outputs one (frame 1000 ∷ []) ≢ outputs (set other SUMS 1) (frame 1000 ∷ [])
+sums-needed = differ (outputs one (frame 1000 ∷ [])) (outputs (set other SUMS 1) (frame 1000 ∷ [])) (λ e. omega (arith, computed .0, computed .6))

@@ -1,0 +1,319 @@
+-- The calls between two frames, on one machine: each voice gets its own writes, in their order, and nothing else changes that a match speaks
+-- of.
+-- In order: a voice after its writes; `Moved`, a machine after some writes; a word that no match speaks of; a write of a voice; reads, pot
+-- results and refused writes; the write latch, byte by byte; the calls. Assumes nothing.
+use mathlib.Core.Path.{_≡_, refl, sym, ap, _∙_}
+use mathlib.Core.Logic.{_≢_}
+use mathlib.Core.Bool.{true, cond}
+use mathlib.Core.List.{List, [], _∷_, _++_}
+use Prim.Native.Nat.{ℕ, zero, suc, _+_, _-_, _*_, _/_, _%_, _^_, _≤_, _<_}
+use native.Mathlib.Decide.{ℕ-discrete}
+use native.Mathlib.Nat.{zero-add}
+use native.Mathlib.Omega.{arith}
+use lib.Bits.{bitAnd}
+use lib.Dec.{eqb, ltb, lit<, lit≤}
+use lib.ListN.{length, getD, set, length-set}
+use lib.Seq.{getD-set-same, getD-set-other}
+use borrow.Author.Tests.{eqb-true, eq-eqb, ne-eqb, le-ltb}
+use Rattle.numbers.proofs.Tests.{either, split, cases}
+use Rattle.answer.specs.Answer.{isDone}
+use Rattle.answer.specs.declared.Answer.{Answer}
+use Rattle.answer.specs.declared.Answer.the-variants.{Address}
+use Rattle.machine.specs.Words.{PAGE, IRQV, PAR, ACTV, SLOW, WRITE, READ, SUMS, wordOf, voiceBits, bitsOf, cut, isVector}
+use Rattle.machine.specs.Voices.{voiceAt}
+use Rattle.machine.proofs.Parts.{voice-word, voice-length, voice-same, voice-set, voice-set-out}
+use Rattle.machine.proofs.Valid.{Sound, sound, is-valid, bits-voice, cut-again, sound-set}
+use Rattle.machine.proofs.Answers.{check-valid}
+use Rattle.registers.specs.Registers.{registerOf, withByte, stored, written}
+use Rattle.registers.specs.declared.Register.the-variants.{Word}
+use Rattle.registers.specs.Calls.{byteAnswer, writeRecord, readRecord, potAnswer, potRecord}
+use Rattle.registers.proofs.Laws.{asked-far}
+use Rattle.registers.proofs.Valid.{word-lt, write-latch, byte-lt}
+use Rattle.registers.proofs.Whole.{write-byte}
+use Rattle.registers.proofs.Corollaries.{read-valid, pot-valid, write-refused, read-keeps, read-flag}
+use Rattle.calls.specs.Calls.{Call, Write, Read, SetPot, after, run}
+use Rattle.renumber.specs.Demand.{SameVoice, Put, ofVoice, Phase, idle, begun, Between, nothing, reading, potting, refused, paging, first, next, last}
+use Rattle.renumber.proofs.Same.{same-equal, same-then, same-set}
+
+-- ---- a voice after its writes
+
+unfoldable pub puts : List (ℕ × ℕ) → List ℕ → List ℕ
+puts [] w = w
+puts (p ∷ ps) w = puts ps (set w (p .0) (cut (p .0) (p .1)))
+
+pub puts-same : (ps : List (ℕ × ℕ)) (w x : List ℕ) → length w ≡ 20 → length x ≡ 20 → SameVoice w x → SameVoice (puts ps w) (puts ps x)
+unfolding puts
+puts-same [] w x a b h = h
+puts-same (p ∷ ps) w x a b h =
+    let y = cut (p .0) (p .1) in
+    puts-same ps (set w (p .0) y) (set x (p .0) y) (length-set w (p .0) y ∙ a) (length-set x (p .0) y ∙ b) (same-set w x (p .0) y a b h)
+
+-- some writes and then others
+puts-both : (v : ℕ) (ps qs : List Put) (w : List ℕ) → puts (ofVoice v (ps ++ qs)) w ≡ puts (ofVoice v qs) (puts (ofVoice v ps) w)
+unfolding puts
+puts-both v [] qs w = refl
+puts-both v (p ∷ ps) qs w = split _ (eqb v (p .voice))
+    (λ t. rw t (puts-both v ps qs (set w (p .word) (cut (p .word) (p .number)))))
+    (λ t. rw t (puts-both v ps qs w))
+
+-- ---- a machine after some writes
+
+-- from m to m′ each voice got its writes of ps, and all else that a match speaks of stays
+pub record Moved (m : List ℕ) (ps : List Put) (m′ : List ℕ) : Type 0 where
+  pub sound : Sound m′
+  pub voices : (v : ℕ) → v < 32 → SameVoice (voiceAt m′ v) (puts (ofVoice v ps) (voiceAt m v))
+  pub active : getD m′ ACTV 0 ≡ getD m ACTV 0
+  pub slow : getD m′ SLOW 0 ≡ getD m SLOW 0
+  pub sums : (c : ℕ) → c < 12 → getD m′ (SUMS + c) 0 ≡ getD m (SUMS + c) 0
+
+pub voice-size : {m : List ℕ} (v : ℕ) → Sound m → v < 32 → length (voiceAt m v) ≡ 20
+voice-size {m} v s h = voice-length m v (omega (arith, s .size))
+
+puts-length : (ps : List (ℕ × ℕ)) (w : List ℕ) → length (puts ps w) ≡ length w
+unfolding puts
+puts-length [] w = refl
+puts-length (p ∷ ps) w = puts-length ps (set w (p .0) (cut (p .0) (p .1))) ∙ length-set w (p .0) (cut (p .0) (p .1))
+
+moved-then : {m m₁ m₂ : List ℕ} {ps qs : List Put} → Sound m → Moved m ps m₁ → Moved m₁ qs m₂ → Moved m (ps ++ qs) m₂
+moved-then {m} {m₁} {m₂} {ps} {qs} s a b = record {
+  sound = b .sound;
+  voices = λ v h.
+      rw (puts-both v ps qs (voiceAt m v))
+      (same-then (b .voices v h)
+      (puts-same (ofVoice v qs) (voiceAt m₁ v) (puts (ofVoice v ps) (voiceAt m v)) (voice-size v (a .sound) h)
+      (puts-length (ofVoice v ps) (voiceAt m v) ∙ voice-size v s h) (a .voices v h)));
+  active = b .active ∙ a .active;
+  slow = b .slow ∙ a .slow;
+  sums = λ c h. b .sums c h ∙ a .sums c h;
+}
+
+-- ---- a word that no match speaks of
+
+abbrev Unheard : ℕ → Type 0
+Unheard i = (PAGE ≤ i) × (i < SUMS) × (i ≢ ACTV) × (i ≢ SLOW)
+
+-- every word but word i is as it was
+abbrev AllBut : ℕ → List ℕ → List ℕ → Type 0
+AllBut i m m′ = (k : ℕ) → k ≢ i → getD m′ k 0 ≡ getD m k 0
+
+quiet : {m m′ : List ℕ} (i : ℕ) → Unheard i → Sound m → Sound m′ → AllBut i m m′ → Moved m [] m′
+unfolding puts
+quiet {m} {m′} i u s s′ f = record {
+  sound = s′;
+  voices = λ v h.
+      same-equal (voice-same m′ m v v (omega (arith, s′ .size)) (omega (arith, s .size)) (λ j k. f (20 * v + j) (λ e. omega (arith, u .0))));
+  active = f ACTV (λ e. u .2 (sym e));
+  slow = f SLOW (λ e. u .3 (sym e));
+  sums = λ c h. f (SUMS + c) (λ e. omega (arith, u .1));
+}
+
+but-set : (m : List ℕ) (i x : ℕ) → AllBut i m (set m i x)
+but-set m i x k d = getD-set-other m i k x 0 d
+
+latch-moved : {m : List ℕ} (x : ℕ) → Sound m → x < 2 ^ 32 → Moved m [] (set m WRITE x)
+latch-moved {m} x s h = quiet WRITE (lit≤ tt, lit< tt, λ e. omega arith, λ e. omega arith) s (write-latch x s h) (but-set m WRITE x)
+
+-- ---- a write of a voice
+
+-- word j of any voice keeps the same bits
+cut-voice : (v j x : ℕ) → v < 32 → j < 20 → cut (wordOf v j) x ≡ cut j x
+unfolding cut
+cut-voice v j x h k =
+    let e : 20 * 0 + j ≡ j = omega arith in
+    ap (bitAnd x) (bits-voice v j h k ∙ sym (rw e at (bits-voice 0 j (lit< tt) k)))
+
+put-moved : {m : List ℕ} (v j x : ℕ) → Sound m → v < 32 → j < 20 → Moved m (record { voice = v; word = j; number = x } ∷ []) (set m (wordOf v j) (cut (wordOf v j) x))
+unfolding puts
+put-moved {m} v j x s hv hj =
+    let i = wordOf v j in
+    let y = cut (wordOf v j) x in
+    record {
+      sound = sound-set i y s (omega arith) (cut-again i x) (λ e. absurd (let z : ⊥ = omega arith in z));
+      voices = λ u hu. at u hu (ℕ-discrete u v);
+      active = getD-set-other m i ACTV y 0 (λ e. omega arith);
+      slow = getD-set-other m i SLOW y 0 (λ e. omega arith);
+      sums = λ c h. getD-set-other m i (SUMS + c) y 0 (λ e. omega arith);
+    }
+  where
+    at : (u : ℕ) → u < 32 → Dec (u ≡ v) → SameVoice (voiceAt (set m (wordOf v j) (cut (wordOf v j) x)) u) (puts (ofVoice u (record { voice = v; word = j; number = x } ∷ [])) (voiceAt m u))
+    at u hu (yes e) = rw (eq-eqb u v e, e) (same-equal (voice-set m v j (cut (wordOf v j) x) hj ∙ ap (set (voiceAt m v) j) (cut-voice v j x hv hj)))
+    at u hu (no e) = rw (ne-eqb u v e) (same-equal (voice-set-out m u (wordOf v j) (cut (wordOf v j) x) (omega (arith, s .size)) (λ k l q. e (omega arith))))
+
+-- ---- reads, pot results and refused writes: they move nothing, and leave PAGE and the write latch
+
+record Quiet (m m′ : List ℕ) : Type 0 where
+  moved : Moved m [] m′
+  page : getD m′ PAGE 0 ≡ getD m PAGE 0
+  latch : getD m′ WRITE 0 ≡ getD m WRITE 0
+
+-- the control register that the vector names is none of the words above
+vector-below : {m : List ℕ} (i : ℕ) → Sound m → PAGE ≤ i → i < 663 → i ≢ wordOf (getD m IRQV 0) 0
+unfolding isVector
+vector-below {m} i s h k e = cases (getD m IRQV 0) 32 ⊥
+    (λ l. omega arith)
+    (λ l. let q = eqb-true (getD m IRQV 0) 128 (rw (le-ltb (getD m IRQV 0) 32 l) at (s .vector)) in omega arith)
+
+read-quiet : {m : List ℕ} (a : ℕ) → Sound m → Quiet m (after m (Read a))
+unfolding after puts
+read-quiet {m} a s = record {
+  moved = record {
+    sound = sound (readRecord m a) (read-valid m a (is-valid m s));
+    voices = λ v h. record {
+      control = λ b d.
+          rw (voice-word (readRecord m a) v 0 (lit< tt), voice-word m v 0 (lit< tt)) (read-flag m a v b h d);
+      others = λ j l k.
+          voice-word (readRecord m a) v j k
+          ∙ read-keeps m a (wordOf v j) (λ e. omega arith) (λ e. omega arith) (λ e. omega arith) (λ e. omega arith)
+          ∙ sym (voice-word m v j k);
+    };
+    active = above ACTV (λ e. omega arith) (λ e. omega arith) (λ e. omega arith) (lit≤ tt) (lit< tt);
+    slow = above SLOW (λ e. omega arith) (λ e. omega arith) (λ e. omega arith) (lit≤ tt) (lit< tt);
+    sums = λ c h. above (SUMS + c) (λ e. omega arith) (λ e. omega arith) (λ e. omega arith) (omega arith) (omega arith);
+  };
+  page = above PAGE (λ e. omega arith) (λ e. omega arith) (λ e. omega arith) (lit≤ tt) (lit< tt);
+  latch = above WRITE (λ e. omega arith) (λ e. omega arith) (λ e. omega arith) (lit≤ tt) (lit< tt);
+}
+  where
+    above : (i : ℕ) → i ≢ READ → i ≢ PAR → i ≢ IRQV → PAGE ≤ i → i < 663 → getD (readRecord m a) i 0 ≡ getD m i 0
+    above i l p q h k = read-keeps m a i l p q (vector-below i s h k)
+
+pot-keeps : (m : List ℕ) (p : ℕ) → AllBut PAR m (potRecord m p)
+unfolding potRecord
+pot-keeps m p k d = either (λ r. getD r k 0 ≡ getD m k 0) (isDone (potAnswer m p)) (set m PAR p) m (λ _. but-set m PAR p k d) (λ _. refl)
+
+pot-quiet : {m : List ℕ} (p : ℕ) → Sound m → Quiet m (after m (SetPot p))
+unfolding after
+pot-quiet {m} p s =
+    let f = pot-keeps m p in
+    record {
+      moved = quiet PAR (lit≤ tt, lit< tt, λ e. omega arith, λ e. omega arith) s (sound (potRecord m p) (pot-valid m p (is-valid m s))) f;
+      page = f PAGE (λ e. omega arith);
+      latch = f WRITE (λ e. omega arith);
+    }
+
+no-move : {m : List ℕ} → Sound m → Moved m [] m
+unfolding puts
+no-move s = record { sound = s; voices = λ v h. same-equal refl; active = refl; slow = refl; sums = λ c h. refl }
+
+refused-quiet : {m : List ℕ} (a b : ℕ) → Sound m → 63 < a → Quiet m (after m (Write a b))
+unfolding after byteAnswer
+refused-quiet {m} a b s h =
+    let e : writeRecord m a b ≡ m = write-refused m a b (rw (asked-far m 63 a Address (check-valid m s) h)) in
+    rw e (record { moved = no-move s; page = refl; latch = refl })
+
+-- ---- the write latch
+
+-- its highest k bytes
+topOf : ℕ → ℕ → ℕ
+topOf k x = x / 2 ^ (32 - 8 * k)
+
+top-next : (k b x : ℕ) → k < 3 → b < 256 → x < 2 ^ 32 → topOf (k + 1) (withByte k b x) ≡ 256 * topOf k x + b
+unfolding topOf withByte
+top-next zero b x h d e = omega arith
+top-next (suc zero) b x h d e = omega arith
+top-next (suc (suc zero)) b x h d e = omega arith
+top-next (suc (suc (suc k))) b x h d e = absurd (let z : ⊥ = omega arith in z)
+
+top-none : (x : ℕ) → x < 2 ^ 32 → topOf 0 x ≡ 0
+unfolding topOf
+top-none x h = omega arith
+
+top-last : (b x : ℕ) → withByte 3 b x ≡ 256 * topOf 3 x + b
+unfolding topOf withByte
+top-last b x = omega arith
+
+latch-lt : {m : List ℕ} → Sound m → getD m WRITE 0 < 2 ^ 32
+latch-lt {m} s = word-lt m s WRITE (lit< tt)
+
+-- bytes 0 to 2 of a register change the latch alone
+byte-written : {m : List ℕ} (r k b : ℕ) → Sound m → r < 16 → k < 3 → after m (Write (4 * r + k) b) ≡ set m WRITE (withByte k b (getD m WRITE 0))
+unfolding after written
+byte-written {m} r k b s hr hk = write-byte m r k b s hr (omega arith) ∙ rw (ne-eqb k 3 (λ e. omega arith))
+
+byte-moved : {m : List ℕ} (r k b : ℕ) → Sound m → r < 16 → k < 3 → b < 256 → Moved m [] (after m (Write (4 * r + k) b))
+byte-moved {m} r k b s hr hk hb =
+    rw (byte-written r k b s hr hk) (latch-moved (withByte k b (getD m WRITE 0)) s (byte-lt k b (getD m WRITE 0) (omega arith) hb (latch-lt s)))
+
+-- byte 3 stores the latch, and clears it
+pub last-written : {m : List ℕ} (r b i : ℕ) → Sound m → r < 16 → registerOf (getD m PAGE 0) r ≡ Word i
+    → after m (Write (4 * r + 3) b) ≡ set (set m i (cut i (withByte 3 b (getD m WRITE 0)))) WRITE 0
+unfolding after written stored
+last-written {m} r b i s hr e = write-byte m r 3 b s hr (lit< tt) ∙ rw e
+
+-- any byte of PAGE
+pub page-named : (p : ℕ) → registerOf p 15 ≡ Word PAGE
+unfolding registerOf
+page-named p = refl
+
+page-moved : {m : List ℕ} (k b : ℕ) → Sound m → k < 4 → b < 256 → Moved m [] (after m (Write (4 * 15 + k) b))
+page-moved {m} k b s hk hb = cases k 3 (Moved m [] (after m (Write (4 * 15 + k) b)))
+    (λ l. byte-moved 15 k b s (lit< tt) l hb)
+    (λ l.
+    let x = withByte 3 b (getD m WRITE 0) in
+    let e : k ≡ 3 = omega arith in
+    let p = quiet PAGE (lit≤ tt, lit< tt, λ e. omega arith, λ e. omega arith) s (sound-set PAGE (cut PAGE x) s (lit< tt) (cut-again PAGE x) (λ z. absurd (let y : ⊥ = omega arith in y))) (but-set m PAGE (cut PAGE x)) in
+    rw (e, last-written 15 b PAGE s (lit< tt) (page-named (getD m PAGE 0))) (moved-then s p (latch-moved 0 (p .sound) (lit< tt))))
+
+-- ---- the calls
+
+-- what holds in the middle of a write: the register still names the word, and the latch's highest bytes are the number so far
+record Begun (m : List ℕ) (r v j k x : ℕ) : Type 0 where
+  hr : r < 16
+  hv : v < 32
+  hj : j < 20
+  named : registerOf (getD m PAGE 0) r ≡ Word (wordOf v j)
+  top : topOf k (getD m WRITE 0) ≡ x
+
+abbrev In : List ℕ → Phase → Type 0
+In m idle = Unit {0}
+In m (begun r v j k x) = Begun m r v j k x
+
+in-quiet : {m m′ : List ℕ} (φ : Phase) → Quiet m m′ → In m φ → In m′ φ
+in-quiet idle q i = tt
+in-quiet (begun r v j k x) q i = record { hr = i .hr; hv = i .hv; hj = i .hj; named = rw (q .page) (i .named); top = rw (q .latch) (i .top) }
+
+one-byte-more : {m : List ℕ} (r v j k x b : ℕ) → Sound m → Begun m r v j k x → k < 3 → b < 256 → Begun (after m (Write (4 * r + k) b)) r v j (k + 1) (256 * x + b)
+one-byte-more {m} r v j k x b s i hk hb =
+    let y = withByte k b (getD m WRITE 0) in
+    rw (byte-written r k b s (i .hr) hk)
+    (record {
+      hr = i .hr;
+      hv = i .hv;
+      hj = i .hj;
+      named = rw (getD-set-other m WRITE PAGE y 0 (λ e. omega arith)) (i .named);
+      top = rw (getD-set-same m WRITE y 0 (omega (arith, s .size))) (top-next k b (getD m WRITE 0) hk hb (latch-lt s) ∙ ap (λ (n : ℕ). 256 * n + b) (i .top));
+    })
+
+last-moved : {m : List ℕ} (r v j x b : ℕ) → Sound m → Begun m r v j 3 x → Moved m (record { voice = v; word = j; number = 256 * x + b } ∷ []) (after m (Write (4 * r + 3) b))
+last-moved {m} r v j x b s i =
+    let p = put-moved v j (256 * x + b) s (i .hv) (i .hj) in
+    rw (last-written r b (wordOf v j) s (i .hr) (i .named), top-last b (getD m WRITE 0), i .top) (moved-then s p (latch-moved 0 (p .sound) (lit< tt)))
+
+stretch : {m : List ℕ} {φ : Phase} {t : List Call} {ps : List Put} → Sound m → In m φ → Between m φ t ps → Moved m ps (run m t)
+unfolding run
+stretch s i nothing = no-move s
+stretch {φ = φ} s i (reading a d) =
+    let q = read-quiet a s in
+    moved-then s (q .moved) (stretch (q .moved .sound) (in-quiet φ q i) d)
+stretch {φ = φ} s i (potting p d) =
+    let q = pot-quiet p s in
+    moved-then s (q .moved) (stretch (q .moved .sound) (in-quiet φ q i) d)
+stretch {φ = φ} s i (refused a b l d) =
+    let q = refused-quiet a b s l in
+    moved-then s (q .moved) (stretch (q .moved .sound) (in-quiet φ q i) d)
+stretch s i (paging k b hk hb d) =
+    let q = page-moved k b s hk hb in
+    moved-then s q (stretch (q .sound) tt d)
+stretch {m} s i (first r v j b hr hv hj hb e d) =
+    let q = byte-moved r 0 b s hr (lit< tt) hb in
+    let o = rw (zero-add b) at (one-byte-more r v j 0 0 b s (record { hr = hr; hv = hv; hj = hj; named = e; top = top-none (getD m WRITE 0) (latch-lt s) }) (lit< tt) hb) in
+    moved-then s q (stretch (q .sound) o d)
+stretch s i (next {r = r} {v = v} {j = j} {k = k} {x = x} b hk hb d) =
+    let q = byte-moved r k b s (i .hr) hk hb in
+    moved-then s q (stretch (q .sound) (one-byte-more r v j k x b s i hk hb) d)
+stretch s i (last {r = r} {v = v} {j = j} {x = x} b hb d) =
+    let q = last-moved r v j x b s i in
+    moved-then s q (stretch (q .sound) tt d)
+
+pub between : {m : List ℕ} {t : List Call} {ps : List Put} → Sound m → Between m idle t ps → Moved m ps (run m t)
+between s d = stretch s tt d

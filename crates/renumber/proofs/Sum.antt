@@ -1,0 +1,137 @@
+-- Sums over the numbers below k, and that a renumbering leaves them as they were. A renumbering is only asked to be one-to-one: that it is
+-- onto is counted here.
+-- In order: sums; a number that is hit or missed; how often a map hits a number; the law. Assumes nothing.
+use mathlib.Core.Path.{_≡_, refl, sym, ap, _∙_}
+use mathlib.Core.Bool.{true, false, cond}
+use Prim.Native.Nat.{ℕ, zero, suc, _+_, _*_, _≤_, _<_}
+use native.Mathlib.Nat.{le-refl, zero-mul, one-mul, mul-one, not-suc-le-zero}
+use native.Mathlib.Omega.{arith}
+use lib.Dec.{eqb}
+use borrow.Author.Tests.{eqb-true, eqb-false, eq-eqb, ne-eqb}
+use Rattle.numbers.proofs.Tests.{split, cases}
+use Rattle.renumber.specs.Demand.{Into, OneToOne}
+
+-- ---- sums
+
+unfoldable pub sum : ℕ → (ℕ → ℕ) → ℕ
+sum zero f = 0
+sum (suc k) f = sum k f + f k
+
+pub sum-ext : (k : ℕ) (f g : ℕ → ℕ) → ((v : ℕ) → v < k → f v ≡ g v) → sum k f ≡ sum k g
+unfolding sum
+sum-ext zero f g h = refl
+sum-ext (suc k) f g h = cc (sum-ext k f g (λ v l. h v (omega arith)), h k (omega arith))
+
+sum-add : (k : ℕ) (f g : ℕ → ℕ) → sum k (λ v. f v + g v) ≡ sum k f + sum k g
+unfolding sum
+sum-add zero f g = refl
+sum-add (suc k) f g = omega (arith, sum-add k f g)
+
+-- of a number that does not depend on v
+sum-of : (k c : ℕ) → sum k (λ v. c) ≡ k * c
+unfolding sum
+sum-of zero c = sym (zero-mul c)
+sum-of (suc k) c = omega (arith, sum-of k c)
+
+sum-mul : (k : ℕ) (f : ℕ → ℕ) (c : ℕ) → sum k (λ v. f v * c) ≡ sum k f * c
+unfolding sum
+sum-mul zero f c = sym (zero-mul c)
+sum-mul (suc k) f c = omega (arith, sum-mul k f c)
+
+sum-swap : (j k : ℕ) (f : ℕ → ℕ → ℕ) → sum j (λ v. sum k (f v)) ≡ sum k (λ u. sum j (λ v. f v u))
+unfolding sum
+sum-swap zero k f = let e : k * 0 ≡ 0 = omega arith in sym (sum-of k 0 ∙ e)
+sum-swap (suc j) k f = ap (λ (n : ℕ). n + sum k (f j)) (sum-swap j k f) ∙ sym (sum-add k (λ u. sum j (λ v. f v u)) (f j))
+
+-- ---- a number that is hit or missed
+
+-- 1 where u is x, and 0 elsewhere
+hit : ℕ → ℕ → ℕ
+hit u x = cond (eqb u x) 1 0
+
+hit-cases : (u x : ℕ) (P : Type 0) → (u ≡ x → hit u x ≡ 1 → P) → ((u ≡ x → ⊥) → hit u x ≡ 0 → P) → P
+unfolding hit
+hit-cases u x P f g = split P (eqb u x) (λ e. f (eqb-true u x e) (rw e)) (λ e. g (eqb-false u x e) (rw e))
+
+missed : (u x : ℕ) → (u ≡ x → ⊥) → hit u x ≡ 0
+unfolding hit
+missed u x e = rw (ne-eqb u x e)
+
+sum-miss : (k x : ℕ) (g : ℕ → ℕ) → k ≤ x → sum k (λ u. hit u x * g u) ≡ 0
+unfolding sum
+sum-miss zero x g h = refl
+sum-miss (suc k) x g h = omega (arith, sum-miss k x g (omega arith), ap (λ (n : ℕ). n * g k) (missed k x (λ e. omega arith)), zero-mul (g k))
+
+sum-hit : (k x : ℕ) (g : ℕ → ℕ) → x < k → sum k (λ u. hit u x * g u) ≡ g x
+unfolding sum
+sum-hit zero x g h = absurd (not-suc-le-zero h)
+sum-hit (suc k) x g h = hit-cases k x _
+    (λ e i. omega (arith, sum-miss k x g (omega arith), ap (λ (n : ℕ). n * g k) i, one-mul (g k), ap g e))
+    (λ e i. omega (arith, sum-hit k x g (omega arith), ap (λ (n : ℕ). n * g k) i, zero-mul (g k)))
+
+-- ---- how often a map hits a number
+
+-- how many of the numbers below j are mapped to u
+hits : ℕ → (ℕ → ℕ) → ℕ → ℕ
+hits j s u = sum j (λ v. hit u (s v))
+
+never : (j : ℕ) (s : ℕ → ℕ) (u : ℕ) → ((v : ℕ) → v < j → u ≡ s v → ⊥) → hits j s u ≡ 0
+unfolding hits sum
+never zero s u h = refl
+never (suc j) s u h = omega (arith, never j s u (λ v l. h v (omega arith)), missed u (s j) (h j (omega arith)))
+
+at-most-once : (k : ℕ) (s : ℕ → ℕ) → OneToOne k s → (u j : ℕ) → j ≤ k → hits j s u ≤ 1
+unfolding hits sum
+at-most-once k s inj u zero h = omega arith
+at-most-once k s inj u (suc j) h = hit-cases u (s j) _
+    (λ e i. omega (arith, i, never j s u (λ v l q. let d : v ≡ j = inj v j (omega arith) (omega arith) (sym q ∙ e) in omega arith)))
+    (λ e i. omega (arith, i, at-most-once k s inj u j (omega arith)))
+
+sum-below : (k : ℕ) (c : ℕ → ℕ) → ((u : ℕ) → u < k → c u ≤ 1) → sum k c ≤ k
+unfolding sum
+sum-below zero c h = omega arith
+sum-below (suc k) c h = omega (arith, sum-below k c (λ u l. h u (omega arith)), h k (omega arith))
+
+-- k numbers, each at most 1, whose sum is k: each is 1
+all-one : (k : ℕ) (c : ℕ → ℕ) → ((u : ℕ) → u < k → c u ≤ 1) → sum k c ≡ k → (u : ℕ) → u < k → c u ≡ 1
+unfolding sum
+all-one zero c h e u l = absurd (not-suc-le-zero l)
+all-one (suc k) c h e u l = hit-cases u k _
+    (λ q i. omega (arith, sum-below k c (λ v m. h v (omega arith)), h k (omega arith), ap c q))
+    (λ q i. all-one k c (λ v m. h v (omega arith)) (omega (arith, sum-below k c (λ v m. h v (omega arith)), h k (omega arith))) u (omega arith))
+
+total : (k : ℕ) (s : ℕ → ℕ) → Into k s → sum k (hits k s) ≡ k
+unfolding hits
+total k s into =
+    sym (sum-swap k k (λ v u. hit u (s v)))
+    ∙ sum-ext k (λ v. sum k (λ u. hit u (s v))) (λ v. 1) (λ v l. simp mul-one at (sum-hit k (s v) (λ u. 1) (into v l)))
+    ∙ sum-of k 1 ∙ mul-one k
+
+-- a one-to-one map of the numbers below k to such numbers hits each of them
+onto : (k : ℕ) (s : ℕ → ℕ) → Into k s → OneToOne k s → (u : ℕ) → u < k → hits k s u ≡ 1
+onto k s into inj = all-one k (hits k s) (λ u l. at-most-once k s inj u k (le-refl k)) (total k s into)
+
+-- ---- the law
+
+-- a renumbering leaves a sum as it was
+pub sum-renumbered : (k : ℕ) (s : ℕ → ℕ) → Into k s → OneToOne k s → (g : ℕ → ℕ) → sum k (λ v. g (s v)) ≡ sum k g
+unfolding hits
+sum-renumbered k s into inj g =
+    sym (sum-ext k (λ v. sum k (λ u. hit u (s v) * g u)) (λ v. g (s v)) (λ v l. sum-hit k (s v) g (into v l)))
+    ∙ sum-swap k k (λ v u. hit u (s v) * g u)
+    ∙ sum-ext k (λ u. sum k (λ v. hit u (s v) * g u)) g
+    (λ u l. sum-mul k (λ v. hit u (s v)) (g u) ∙ ap (λ (n : ℕ). n * g u) (onto k s into inj u l) ∙ one-mul (g u))
+
+pub one-to-one-below : (n k : ℕ) (s : ℕ → ℕ) → k ≤ n → OneToOne n s → OneToOne k s
+one-to-one-below n k s h inj v w hv hw e = inj v w (omega arith) (omega arith) e
+
+-- what maps the numbers below k to such numbers, one-to-one, maps no other there
+pub stays-out : (n k : ℕ) (s : ℕ → ℕ) → k ≤ n → OneToOne n s → Into k s → (v : ℕ) → v < n → k ≤ v → k ≤ s v
+stays-out n k s h inj into v hv hk = cases (s v) k (k ≤ s v)
+    (λ l.
+    omega (
+      arith,
+      onto k s into (one-to-one-below n k s h inj) (s v) l,
+      never k s (s v) (λ w l q. let d : v ≡ w = inj v w hv (omega arith) q in omega arith),
+    ))
+    (λ l. l)

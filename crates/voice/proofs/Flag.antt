@@ -1,0 +1,118 @@
+-- A turn carries the interrupt flag and does not heed it: two voices that hold the same registers, interrupt flags excepted, add the same
+-- to their channel, which is the same, and hold the same registers after it, interrupt flags excepted.
+-- In order: such voices; what the turn reads of them; the turn. Assumes nothing.
+use mathlib.Core.Path.{_≡_, refl, sym, ap, _∙_}
+use mathlib.Core.Bool.{cond}
+use mathlib.Core.List.{List}
+use Prim.Native.Nat.{ℕ}
+use native.Mathlib.Omega.{arith}
+use lib.IntN.{ℤ, pos}
+use Rattle.numbers.proofs.Tests.{alongside}
+use Rattle.control.specs.Control.{runs, LP3, LP4, CMPD, IRQ}
+use Rattle.control.proofs.Agree.{AgreeBut, flag-agrees, bank-agrees, runs-agrees}
+use Rattle.sample.specs.Sample.{fetched, fraction, between}
+use Rattle.sample.specs.declared.Samples.{Samples}
+use Rattle.sample.proofs.Laws.{fetched-bank}
+use Rattle.filter.specs.Filter.{filtered}
+use Rattle.filter.specs.declared.Poles.{Poles}
+use Rattle.filter.proofs.Laws.{filtered-passes}
+use Rattle.volume.specs.Volume.{panned}
+use Rattle.address.specs.Address.{stepped}
+use Rattle.address.proofs.Agree.{SamePlace, stepped-agrees}
+use Rattle.voice.specs.declared.Voice.{Voice}
+use Rattle.voice.specs.declared.Levels.{Levels}
+use Rattle.voice.specs.declared.Turn.{Turn}
+use Rattle.voice.specs.Turn.{outputs, levels, withOutputs, moved, sampled, stoppedTurn, runningTurn, turnOf}
+
+-- ---- voices that differ in the interrupt flag alone
+
+-- the other registers: the voice with CR put to 0
+unfoldable pub besideCR : Voice → Voice
+besideCR v =
+    record {
+      cr = 0;
+      fc = v .fc;
+      lvol = v .lvol;
+      lvramp = v .lvramp;
+      rvol = v .rvol;
+      rvramp = v .rvramp;
+      ecount = v .ecount;
+      k2 = v .k2;
+      k2ramp = v .k2ramp;
+      k1 = v .k1;
+      k1ramp = v .k1ramp;
+      start = v .start;
+      end = v .end;
+      accum = v .accum;
+      o4n1 = v .o4n1;
+      o3n1 = v .o3n1;
+      o3n2 = v .o3n2;
+      o2n1 = v .o2n1;
+      o2n2 = v .o2n2;
+      o1n1 = v .o1n1;
+    }
+
+pub record ButFlag (v w : Voice) : Type 0 where
+  pub cr : AgreeBut IRQ (v .cr) (w .cr)
+  pub others : besideCR v ≡ besideCR w
+
+-- two turns that add the same and leave such voices
+pub record SameTurn (t u : Turn) : Type 0 where
+  pub left : t .left ≡ u .left
+  pub right : t .right ≡ u .right
+  pub voice : ButFlag (t .voice) (u .voice)
+
+module _ (v w : Voice) (h : ButFlag v w) where
+  -- ---- what the turn reads
+
+  same-poles : (x : ℤ) → filtered (v .cr) (v .k1) (v .k2) x (outputs v) ≡ filtered (w .cr) (w .k1) (w .k2) x (outputs w)
+  unfolding besideCR outputs
+  same-poles x =
+      filtered-passes (v .cr) (w .cr) (v .k1) (v .k2) x (outputs v)
+      (flag-agrees IRQ (v .cr) (w .cr) (h .cr) LP3 (λ e. omega arith)) (flag-agrees IRQ (v .cr) (w .cr) (h .cr) LP4 (λ e. omega arith))
+      ∙ ap (λ (z : Voice). filtered (w .cr) (z .k1) (z .k2) x (outputs z)) (h .others)
+
+  same-sample : (memory : List ℕ) → sampled memory v ≡ sampled memory w
+  unfolding besideCR sampled
+  same-sample memory =
+      ap (λ (s : Samples). between (fraction (v .accum)) (s .first) (s .second))
+      (fetched-bank memory (v .cr) (w .cr) (v .accum) (flag-agrees IRQ (v .cr) (w .cr) (h .cr) CMPD (λ e. omega arith)) (bank-agrees (v .cr) (w .cr) (h .cr)))
+      ∙ ap (λ (z : Voice). let s = fetched memory (w .cr) (z .accum) in between (fraction (z .accum)) (s .first) (s .second)) (h .others)
+
+  same-levels : (slow : ℕ) → levels slow v ≡ levels slow w
+  unfolding besideCR levels
+  same-levels slow = ap (levels slow) (h .others)
+
+  same-place : SamePlace (stepped (v .cr) (v .fc) (v .start) (v .end) (v .accum)) (stepped (w .cr) (w .fc) (w .start) (w .end) (w .accum))
+  unfolding besideCR
+  same-place =
+      let p = stepped-agrees (v .cr) (w .cr) (h .cr) (v .fc) (v .start) (v .end) (v .accum) in
+      let q = ap (λ (z : Voice). stepped (w .cr) (z .fc) (z .start) (z .end) (z .accum)) (h .others) in
+      rw (← q) p
+
+  -- ---- the turn
+
+  stopped-same : SameTurn (stoppedTurn v) (stoppedTurn w)
+  unfolding besideCR withOutputs stoppedTurn
+  stopped-same =
+      let p = same-poles (pos 0) in
+      record { left = refl; right = refl; voice = record { cr = h .cr; others = λ i. besideCR (withOutputs (h .others i) (p i)) } }
+
+  running-same : (memory : List ℕ) (slow : ℕ) → SameTurn (runningTurn memory slow v) (runningTurn memory slow w)
+  unfolding besideCR withOutputs moved runningTurn
+  running-same memory slow =
+      let p = ap (λ (x : ℤ). filtered (v .cr) (v .k1) (v .k2) x (outputs v)) (same-sample memory) ∙ same-poles (sampled memory w) in
+      let a = same-place in
+      let l = same-levels slow in
+      record {
+        left = λ i. panned (h .others i .lvol) (p i .o4);
+        right = λ i. panned (h .others i .rvol) (p i .o4);
+        voice = record {
+          cr = a .cr;
+          others = λ i. besideCR (moved (withOutputs (h .others i) (p i)) (record { accum = a .accum i; cr = 0 }) (l i));
+        };
+      }
+
+  pub same-turn : (memory : List ℕ) (slow : ℕ) → SameTurn (turnOf memory slow v) (turnOf memory slow w)
+  unfolding turnOf
+  same-turn memory slow = alongside SameTurn (runs-agrees (v .cr) (w .cr) (h .cr)) (running-same memory slow) stopped-same
