@@ -73,19 +73,20 @@ static uint32_t sample_word(uint32_t place)
 /* Each row is the words 0 to 13 of a voice: CR, FC, LVOL, LVRAMP, RVOL, RVRAMP,
    ECOUNT, K2, K2RAMP, K1, K1RAMP; then START, END, ACCUM. */
 static const uint32_t voices[][SET_WORDS] = {
-    /* 0, 1: to the end, and to the start; there they stop and interrupt. */
+    /* 0, 1: to the end, and to the start, which is address 0; there they stop
+       and interrupt. */
     { ALL_LOW | CR_IRQE | TO_CHANNEL(0), 0x0733,
       0xE000, 0, 0xD800, 0, 0, 0xF000, 0, 0xE000, 0,
       AT(SAW + 16), AT(SAW + 60) + 0x480, AT(SAW + 16) },
     { ALL_LOW | CR_IRQE | CR_DIR | TO_CHANNEL(0), 0x0911,
       0xC340, 0, 0xE120, 0, 0, 0xFFFF, 0, 0xFFFF, 0,
-      AT(SAW + 16), AT(SAW + 60) + 0x480, AT(SAW + 60) + 0x3FF },
-    /* 2, 3: round and round. All four ramps, up and down, also to the
-       limits; K1 has the slow bit. */
+      AT(SAW), AT(SAW + 44), AT(SAW + 43) + 0x3FF },
+    /* 2, 3: round and round; 3 also steps on its start itself. All four ramps,
+       up and down, also to the limits; K1 has the slow bit. */
     { ALL_LOW | CR_LPE | TO_CHANNEL(1), 0x0A37,
       0xA000, 0x7F00, 0xF000, 0x8100, 300, 0xFFFF, 0xC000, 0x4000, 0x4001,
       AT(TRIANGLE), AT(TRIANGLE + 32), AT(TRIANGLE + 3) },
-    { ALL_LOW | CR_LPE | CR_DIR | TO_CHANNEL(1), 0x0123,
+    { ALL_LOW | CR_LPE | CR_DIR | TO_CHANNEL(1), 0x0400,
       0x0130, 0xFF00, 0xFF80, 0x0500, 100, 0xFF00, 0x1000, 0x0140, 0xE001,
       AT(TRIANGLE + 64), AT(TRIANGLE + 80) + 0x780, AT(TRIANGLE + 70) },
     /* 4, 5: one jump, and then on for good. */
@@ -102,10 +103,11 @@ static const uint32_t voices[][SET_WORDS] = {
     { CR_LP3 | BOTH_WAYS | CR_IRQE | CR_DIR | TO_CHANNEL(3), 0x07FF,
       0xE200, 0, 0xE600, 0, 0, 0xFFF0, 0, 0x9000, 0,
       AT(SAW + 200), AT(SAW + 225), AT(SAW + 220) + 0x123 },
-    /* 8, 9: compressed samples, through high pass poles. */
-    { CR_CMPD | CR_LPE | TO_CHANNEL(4), 0x0801,
+    /* 8, 9: compressed samples, through high pass poles; 8 steps on its end
+       itself. */
+    { CR_CMPD | CR_LPE | TO_CHANNEL(4), 0x0800,
       0xF400, 0, 0xF000, 0, 0, 0xF800, 0, 0xFFFF, 0,
-      AT(CODES), AT(CODES + 256), AT(CODES + 7) },
+      AT(CODES), AT(CODES + 250), AT(CODES + 7) },
     { CR_CMPD | CR_LP3 | BOTH_WAYS | CR_DIR | TO_CHANNEL(4), 0x1F0F,
       0xEC00, 0xFE00, 0xE000, 0x0300, 511, 0xFFFF, 0xF001, 0xFFFF, 0xFD00,
       AT(CODES + 300), AT(CODES + 420), AT(CODES + 360) },
@@ -208,6 +210,18 @@ static void turn_to(uint32_t page)
     put_register(PAGE, page);
 }
 
+/* The first registers of a page; each value is one step from the last. */
+static void put_registers(uint32_t page, uint32_t count, uint32_t value,
+                          uint32_t step)
+{
+    uint32_t number;
+
+    turn_to(page);
+    for (number = 0; number < count; number++) {
+        put_register(number, value + step * number);
+    }
+}
+
 static void get_registers(uint32_t page, uint32_t count)
 {
     uint32_t number;
@@ -258,35 +272,36 @@ static void play_refused(void)
     command(NO_CALL, 0, 0);
 }
 
-/* Every register of each kind of page takes ones and is read. */
+/* Every register of each kind of page takes a value of its own and then ones,
+   and is read; the reset takes all of it back. */
 static void play_registers(void)
 {
     static const uint32_t pages[] = { 5, HIGH_PAGES + 5, SUM_PAGES + 5 };
     uint32_t kind;
-    uint32_t number;
 
     for (kind = 0; kind < 3; kind++) {
-        turn_to(pages[kind]);
-        for (number = 0; number < PAGE; number++) {
-            put_register(number, 0xFFFFFFFFu);
-            get_register(number);
-        }
-        get_register(PAGE);
+        put_registers(pages[kind], PAGE, 0xFEDCBA98u, 0x9E3779B9u);
+        get_registers(pages[kind], 16);
+        put_registers(pages[kind], PAGE, 0xFFFFFFFFu, 0);
+        get_registers(pages[kind], 16);
     }
     command(FRAME, 0, 0);
     get_registers(HIGH_PAGES + 5, 10);
     command(RESET, 0, 0);
+    get_registers(5, 16);
 }
 
-/* The latches between registers, and the pot result, which reads once. */
+/* Bytes of several registers meet in the latches; the pot result reads once. */
 static void play_latches(void)
 {
     turn_to(3);
     command(WRITE, 4 * VOICE_LVOL, 0x12);
     command(WRITE, 4 * VOICE_RVOL + 2, 0x34);
     command(WRITE, 4 * VOICE_K1 + 3, 0x56);
+    command(WRITE, 4 * VOICE_K2 + 3, 0x78);
     get_register(VOICE_K1);
-    command(READ, 4 * MODE + 3, 0);
+    get_register(VOICE_K2);
+    command(READ, 4 * VOICE_CR + 3, 0);
     command(POT, 725, 0);
     get_register(PAR);
     get_register(PAR);
@@ -341,12 +356,7 @@ static void play_fewer(void)
 /* Sums that the host sets go out with the voices' values on top. */
 static void play_sums(void)
 {
-    uint32_t number;
-
-    turn_to(SUM_PAGES);
-    for (number = 0; number < OUTPUT_VALUES; number++) {
-        put_register(number, 0x07FFF0u + 0x0B4321u * number);
-    }
+    put_registers(SUM_PAGES, OUTPUT_VALUES, 0x07FFF0u, 0x0B4321u);
     get_register(0);
     frames(2);
 }

@@ -1,5 +1,6 @@
--- The commands of a score: which call six bytes ask for. Assumes nothing.
-use Prim.Native.Nat.{ℕ, _+_, _*_}
+-- A score: the words of sample memory at its start, and which call six bytes after them ask for. Assumes nothing.
+use Prim.Native.Nat.{ℕ, _+_, _*_, _<_}
+use mathlib.Core.Path.{_≡_}
 use mathlib.Core.Bool.{cond}
 use mathlib.Core.List.{List}
 use lib.Dec.{eqb}
@@ -7,6 +8,14 @@ use lib.ListN.{getD}
 use Rattle.calls.specs.declared.Ask.the-variants.{Reset, Write, Read, SetPot, Frame}
 use Rattle.score.specs.declared.Command.{Command}
 use Rattle.score.specs.declared.Command.the-variants.{Call, Unknown}
+
+-- two bytes as one word, the high one first
+abbrev pub wordOf : ℕ → ℕ → ℕ
+wordOf high low = 256 * high + low
+
+-- the first n words of the memory are the pairs of the score's bytes
+abbrev pub Filled : ℕ → List ℕ → List ℕ → Type 0
+Filled n score memory = (k : ℕ) → k < n → getD memory k 0 ≡ wordOf (getD score (2 * k) 0) (getD score (2 * k + 1) 0)
 
 -- four bytes as one number, the highest first
 abbrev pub numberOf : ℕ → ℕ → ℕ → ℕ → ℕ

@@ -11,7 +11,7 @@ ghost use mathlib.Core.Path.{_≡_};
 ghost use Prim.Native.Nat.{_+_, _*_, _≤_};
 ghost use lib.IntN.{natAbs};
 ghost use lib.ListN.{length};
-ghost use Rattle.score.specs.Score.{numberOf, commandOf, commandAt};
+ghost use Rattle.score.specs.Score.{wordOf, Filled, numberOf, commandOf, commandAt};
 use calls::Ask;
 use calls::Reply;
 use libc::STDIN_FILENO;
@@ -22,7 +22,7 @@ enum Command {
     Unknown,
 }
 
-// The record holds no valid word at first, so that all that is asked before a reset is refused.
+// The record is not valid at first, so that all that is asked before a reset is refused.
 fn main() {
     let mut input = io::large_buffer();
     let n = io::read_full(STDIN_FILENO, &mut input);
@@ -39,6 +39,7 @@ fn main() {
 // The sample memory, from the bytes at the score's start.
 fn fill(memory: &mut [u16], score: &[u8])
     requires { ⌜ 2 * length (now memory) ≤ length (now score) ⌝ }
+    ensures { λ _. ⌜ Filled (length (now (memory .entry))) (now (score .entry)) (now (memory .exit)) ⌝ }
 {
     for i in 0..memory.len() {
         memory[i] = word(score[2 * i], score[2 * i + 1]);
@@ -138,7 +139,7 @@ fn number(a: u8, b: u8, c: u8, d: u8) -> u32
 }
 
 fn word(high: u8, low: u8) -> u16
-    ensures { λ r. ⌜ r ≡ 256 * high + low ⌝ }
+    ensures { λ r. ⌜ r ≡ wordOf high low ⌝ }
 {
     256 * high as u16 + low as u16
 }
