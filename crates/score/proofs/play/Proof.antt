@@ -1,0 +1,28 @@
+-- `score::play` meets its contract: each command is whole. Assumes nothing.
+use mathlib.Core.Path.{_≡_}
+use Prim.Native.Nat.{_-_, _/_, _≤_}
+use borrow.Author.Needs.{needs}
+use lib.ListN.{length}
+use Rattle.score.proofs.play.Statement.{statement}
+use Rattle.score.proofs.play.Tie as tie
+
+abbrev Inv-loop : tie.InvT-loop
+Inv-loop m₀ memory out₀ commands k₀ k-end m out k = (length m ≡ length m₀) × (length out ≡ length out₀) × (k-end ≡ length commands / 6) × (k ≤ k-end)
+
+abbrev μ-loop : tie.MeasureT-loop
+μ-loop m₀ memory out₀ commands k₀ k-end m out k = k-end - k
+
+pub play-spec : {M : Type 1} → statement M
+play-spec =
+    tie.close
+    (tie.spec Inv-loop μ-loop
+    (λ c. search needs)
+    (λ c. search needs)
+    (λ c κs. search needs)
+    (λ c κs. search needs)
+    (λ c. search needs)
+    (λ c. search needs)
+    (λ c. search needs)
+    (λ c. search needs)
+    (λ c. search needs)
+    (λ c. search needs))

@@ -1,0 +1,34 @@
+-- A score: the words of sample memory at its start, and which call six bytes after them ask for. Assumes nothing.
+use Prim.Native.Nat.{ℕ, _+_, _*_, _<_}
+use mathlib.Core.Path.{_≡_}
+use mathlib.Core.Bool.{cond}
+use mathlib.Core.List.{List}
+use lib.Dec.{eqb}
+use lib.ListN.{getD}
+use Rattle.calls.specs.declared.Ask.the-variants.{Reset, Write, Read, SetPot, Frame}
+use Rattle.score.specs.declared.Command.{Command}
+use Rattle.score.specs.declared.Command.the-variants.{Call, Unknown}
+
+-- two bytes as one word, the high one first
+abbrev pub wordOf : ℕ → ℕ → ℕ
+wordOf high low = 256 * high + low
+
+-- the first n words of the memory are the pairs of the score's bytes
+abbrev pub Filled : ℕ → List ℕ → List ℕ → Type 0
+Filled n score memory = (k : ℕ) → k < n → getD memory k 0 ≡ wordOf (getD score (2 * k) 0) (getD score (2 * k + 1) 0)
+
+-- four bytes as one number, the highest first
+abbrev pub numberOf : ℕ → ℕ → ℕ → ℕ → ℕ
+numberOf a b c d = 16777216 * a + 65536 * b + 256 * c + d
+
+unfoldable pub commandOf : ℕ → ℕ → ℕ → Command
+commandOf kind n byte =
+    cond (eqb kind 0) (Call Reset)
+    (cond (eqb kind 1) (Call (Write n byte))
+    (cond (eqb kind 2) (Call (Read n))
+    (cond (eqb kind 3) (Call (SetPot n))
+    (cond (eqb kind 4) (Call Frame) Unknown))))
+
+-- the command whose six bytes begin at i
+abbrev pub commandAt : List ℕ → ℕ → Command
+commandAt xs i = commandOf (getD xs i 0) (numberOf (getD xs (i + 1) 0) (getD xs (i + 2) 0) (getD xs (i + 3) 0) (getD xs (i + 4) 0)) (getD xs (i + 5) 0)

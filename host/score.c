@@ -1,0 +1,513 @@
+/*
+ * The score that the program crates/score plays, and what it has to print.
+ *
+ *   score make          writes the score: 4,096 words of sample memory and
+ *                       then commands of six bytes, which are a kind, a
+ *                       number of four bytes and one byte
+ *   score play < SCORE  plays a score on the reference model and prints one
+ *                       line for each command
+ *
+ * The score sets its voices up as a host does, by bytes: the page, and then
+ * the four bytes of each register.
+ */
+#include <inttypes.h>
+#include <stdio.h>
+#include <string.h>
+
+#include "reference.h"
+
+enum kind { RESET, WRITE, READ, POT, FRAME, NO_CALL };
+
+#define COMMAND_BYTES 6u
+#define MEMORY_WORDS  4096u
+#define MOST_BYTES    65536u
+
+/* ==== the sample memory =================================================== */
+
+/* Six shapes share the memory; each begins at one of these words. */
+#define SAW      0u
+#define TRIANGLE 512u
+#define NOISE    1024u
+#define CODES    2048u
+#define HIGHEST  3072u
+#define LOWEST   3584u
+
+/* Bytes that look like chance and are the same each time. */
+static uint32_t noise_byte(uint32_t place)
+{
+    return (place * 1664525u + 1013904223u) / 65536u % 256u;
+}
+
+static uint32_t sample_word(uint32_t place)
+{
+    if (place >= LOWEST) {
+        return 0x8000u;
+    }
+    if (place >= HIGHEST) {
+        return 0x7FFFu;
+    }
+    if (place >= CODES) {
+        /* Every code; the low byte must not be heard. */
+        return 256u * ((place - CODES) * 37u % 256u) + noise_byte(place);
+    }
+    if (place >= NOISE) {
+        return 256u * noise_byte(place) + noise_byte(place + 5000u);
+    }
+    if (place >= TRIANGLE) {
+        uint32_t step = (place - TRIANGLE) % 32u;
+
+        return (step < 16u ? step : 32u - step) * 4000u % 65536u;
+    }
+    return (place + 1u) * 1280u % 65536u;
+}
+
+/* ==== the voices ========================================================== */
+
+#define AT(word)      ((word) * 2048u) /* as START, END and ACCUM have it */
+#define TO_CHANNEL(n) ((n) * CR_CA0)
+#define ALL_LOW       (CR_LP4 | CR_LP3)
+#define BOTH_WAYS     (CR_BLE | CR_LPE)
+
+#define SET_WORDS 14u /* the words of a voice that the host sets */
+
+/* Each row is the words 0 to 13 of a voice: CR, FC, LVOL, LVRAMP, RVOL, RVRAMP,
+   ECOUNT, K2, K2RAMP, K1, K1RAMP; then START, END, ACCUM. */
+static const uint32_t voices[][SET_WORDS] = {
+    /* 0, 1: to the end, and to the start, which is address 0; there they stop
+       and interrupt. */
+    { ALL_LOW | CR_IRQE | TO_CHANNEL(0), 0x0733,
+      0xE000, 0, 0xD800, 0, 0, 0xF000, 0, 0xE000, 0,
+      AT(SAW + 16), AT(SAW + 60) + 0x480, AT(SAW + 16) },
+    { ALL_LOW | CR_IRQE | CR_DIR | TO_CHANNEL(0), 0x0911,
+      0xC340, 0, 0xE120, 0, 0, 0xFFFF, 0, 0xFFFF, 0,
+      AT(SAW), AT(SAW + 44), AT(SAW + 43) + 0x3FF },
+    /* 2, 3: round and round; 3 also steps on its start itself. All four ramps,
+       up and down, also to the limits; K1 has the slow bit. */
+    { ALL_LOW | CR_LPE | TO_CHANNEL(1), 0x0A37,
+      0xA000, 0x7F00, 0xF000, 0x8100, 300, 0xFFFF, 0xC000, 0x4000, 0x4001,
+      AT(TRIANGLE), AT(TRIANGLE + 32), AT(TRIANGLE + 3) },
+    { ALL_LOW | CR_LPE | CR_DIR | TO_CHANNEL(1), 0x0400,
+      0x0130, 0xFF00, 0xFF80, 0x0500, 100, 0xFF00, 0x1000, 0x0140, 0xE001,
+      AT(TRIANGLE + 64), AT(TRIANGLE + 80) + 0x780, AT(TRIANGLE + 70) },
+    /* 4, 5: one jump, and then on for good. */
+    { ALL_LOW | CR_BLE | CR_IRQE | TO_CHANNEL(2), 0x0D05,
+      0xD000, 0, 0xC000, 0, 0, 0xD000, 0, 0xD000, 0,
+      AT(NOISE + 200), AT(NOISE + 60), AT(NOISE + 20) },
+    { ALL_LOW | CR_BLE | CR_IRQE | CR_DIR | TO_CHANNEL(2), 0x0B99,
+      0xCF00, 0, 0xDF00, 0, 0, 0xD000, 0, 0xD000, 0,
+      AT(NOISE + 500), AT(NOISE + 900), AT(NOISE + 540) },
+    /* 6, 7: to and fro. */
+    { CR_LP4 | BOTH_WAYS | CR_IRQE | TO_CHANNEL(3), 0x1001,
+      0xE400, 0, 0xE800, 0, 0, 0x8000, 0, 0xFFFF, 0,
+      AT(SAW + 100), AT(SAW + 130) + 0x80, AT(SAW + 101) },
+    { CR_LP3 | BOTH_WAYS | CR_IRQE | CR_DIR | TO_CHANNEL(3), 0x07FF,
+      0xE200, 0, 0xE600, 0, 0, 0xFFF0, 0, 0x9000, 0,
+      AT(SAW + 200), AT(SAW + 225), AT(SAW + 220) + 0x123 },
+    /* 8, 9: compressed samples, through high pass poles; 8 steps on its end
+       itself. */
+    { CR_CMPD | CR_LPE | TO_CHANNEL(4), 0x0800,
+      0xF400, 0, 0xF000, 0, 0, 0xF800, 0, 0xFFFF, 0,
+      AT(CODES), AT(CODES + 250), AT(CODES + 7) },
+    { CR_CMPD | CR_LP3 | BOTH_WAYS | CR_DIR | TO_CHANNEL(4), 0x1F0F,
+      0xEC00, 0xFE00, 0xE000, 0x0300, 511, 0xFFFF, 0xF001, 0xFFFF, 0xFD00,
+      AT(CODES + 300), AT(CODES + 420), AT(CODES + 360) },
+    /* 10, 11: past END out of the memory, and below word 0 to the top of
+       the bank. */
+    { ALL_LOW | CR_LEI | TO_CHANNEL(5), 0x0C40,
+      0xD800, 0, 0xD000, 0, 0, 0xFFFF, 0, 0xFFFF, 0,
+      AT(SAW), AT(SAW + 10), AT(LOWEST + 300) },
+    { ALL_LOW | CR_LEI | CR_DIR | TO_CHANNEL(5), 0x0155,
+      0xD400, 0, 0xD200, 0, 0, 0xFFFF, 0, 0xFFFF, 0,
+      AT(SAW + 20), AT(SAW + 30), AT(SAW + 6) },
+    /* 12: END at the top, so that the next address has more than 32 bits. */
+    { ALL_LOW | CR_LPE | CR_IRQE | TO_CHANNEL(5), 0x1ABC,
+      0xC800, 0, 0xC000, 0, 0, 0xFFFF, 0, 0xFFFF, 0,
+      AT(2097136), 0xFFFFFF80, 0xFFFFF000 },
+    /* 13, 14: the two channel numbers that go nowhere. */
+    { ALL_LOW | CR_LPE | TO_CHANNEL(6), 0x0800,
+      0xFFF0, 0, 0xFFF0, 0, 0, 0xFFFF, 0, 0xFFFF, 0,
+      AT(HIGHEST), AT(HIGHEST + 40), AT(HIGHEST) },
+    { ALL_LOW | CR_LPE | TO_CHANNEL(7), 0x0800,
+      0xFFF0, 0, 0xFFF0, 0, 0, 0xFFFF, 0, 0xFFFF, 0,
+      AT(HIGHEST), AT(HIGHEST + 40), AT(HIGHEST) },
+    /* 15: a bank that the memory does not reach. */
+    { ALL_LOW | CR_LPE | CR_BS0 | TO_CHANNEL(1), 0x0800,
+      0xFFF0, 0, 0xFFF0, 0, 0, 0xFFFF, 0, 0xFFFF, 0,
+      AT(HIGHEST), AT(HIGHEST + 40), AT(HIGHEST) },
+};
+
+#define TABLE_VOICES ((uint32_t)(sizeof voices / sizeof voices[0]))
+
+/* The voices of the chords: as loud as can be, on one sample. */
+static const uint32_t highest[SET_WORDS] = {
+    ALL_LOW | CR_LPE | TO_CHANNEL(0), 0x0400,
+    0xFFF0, 0, 0xF7F0, 0, 0, 0xFFFF, 0, 0xFFFF, 0,
+    AT(HIGHEST), AT(HIGHEST + 40), AT(HIGHEST)
+};
+static const uint32_t lowest[SET_WORDS] = {
+    ALL_LOW | CR_LPE | TO_CHANNEL(4), 0x0400,
+    0xFFF0, 0, 0xE7F0, 0, 0, 0xFFFF, 0, 0xFFFF, 0,
+    AT(LOWEST), AT(LOWEST + 40), AT(LOWEST)
+};
+
+/* ==== commands ============================================================ */
+
+static void put_number(uint32_t number, uint32_t bytes)
+{
+    while (bytes > 0) {
+        bytes -= 1;
+        putchar((int)(number >> (8u * bytes) & 0xFFu));
+    }
+}
+
+static void command(enum kind kind, uint32_t number, uint32_t byte)
+{
+    put_number((uint32_t)kind, 1);
+    put_number(number, 4);
+    put_number(byte, 1);
+}
+
+static void frames(uint32_t count)
+{
+    while (count > 0) {
+        command(FRAME, 0, 0);
+        count -= 1;
+    }
+}
+
+/* ==== registers =========================================================== */
+
+#define PAR  13u
+#define IRQV 14u
+#define PAGE 15u
+
+/* The same registers on each page of their kind. */
+#define HIGH_PAGES 32u
+#define SUM_PAGES  64u
+#define ACTV       11u
+#define MODE       12u
+
+static void put_register(uint32_t number, uint32_t value)
+{
+    uint32_t byte;
+
+    for (byte = 0; byte < 4; byte++) {
+        command(WRITE, 4 * number + byte, value >> (24 - 8 * byte) & 0xFFu);
+    }
+}
+
+static void get_register(uint32_t number)
+{
+    uint32_t byte;
+
+    for (byte = 0; byte < 4; byte++) {
+        command(READ, 4 * number + byte, 0);
+    }
+}
+
+static void turn_to(uint32_t page)
+{
+    put_register(PAGE, page);
+}
+
+/* The first registers of a page; each value is one step from the last. */
+static void put_registers(uint32_t page, uint32_t count, uint32_t value,
+                          uint32_t step)
+{
+    uint32_t number;
+
+    turn_to(page);
+    for (number = 0; number < count; number++) {
+        put_register(number, value + step * number);
+    }
+}
+
+static void get_registers(uint32_t page, uint32_t count)
+{
+    uint32_t number;
+
+    turn_to(page);
+    for (number = 0; number < count; number++) {
+        get_register(number);
+    }
+}
+
+/* CR last, so that the voice starts with everything set. */
+static void set_voice(uint32_t voice, const uint32_t *words)
+{
+    uint32_t word;
+
+    turn_to(HIGH_PAGES + voice);
+    for (word = VOICE_START; word <= VOICE_ACCUM; word++) {
+        put_register(word - VOICE_START + 1, words[word]);
+    }
+    turn_to(voice);
+    for (word = VOICE_FC; word <= VOICE_K1RAMP; word++) {
+        put_register(word, words[word]);
+    }
+    put_register(VOICE_CR, words[VOICE_CR]);
+}
+
+static void set_control(uint32_t page, uint32_t cr)
+{
+    turn_to(page);
+    put_register(VOICE_CR, cr);
+}
+
+/* ==== the passages of the score =========================================== */
+
+/* Nothing is done before the reset. */
+static void play_refused(void)
+{
+    command(WRITE, 4 * PAGE + 3, 5);
+    command(READ, 4 * IRQV, 0);
+    command(POT, 300, 0);
+    command(FRAME, 0, 0);
+    command(RESET, 0, 0);
+    command(FRAME, 0, 0);
+    command(READ, 64, 0);
+    command(WRITE, 64, 1);
+    command(WRITE, 0xFFFFFFFFu, 1);
+    command(POT, 1024, 0);
+    command(NO_CALL, 0, 0);
+}
+
+/* Every register of each kind of page takes a value of its own and then ones,
+   and is read; the reset takes all of it back. */
+static void play_registers(void)
+{
+    static const uint32_t pages[] = { 5, HIGH_PAGES + 5, SUM_PAGES + 5 };
+    uint32_t kind;
+
+    for (kind = 0; kind < 3; kind++) {
+        put_registers(pages[kind], PAGE, 0xFEDCBA98u, 0x9E3779B9u);
+        get_registers(pages[kind], 16);
+        put_registers(pages[kind], PAGE, 0xFFFFFFFFu, 0);
+        get_registers(pages[kind], 16);
+    }
+    command(FRAME, 0, 0);
+    get_registers(HIGH_PAGES + 5, 10);
+    command(RESET, 0, 0);
+    get_registers(5, 16);
+}
+
+/* Bytes of several registers meet in the latches; the pot result reads once. */
+static void play_latches(void)
+{
+    turn_to(3);
+    command(WRITE, 4 * VOICE_LVOL, 0x12);
+    command(WRITE, 4 * VOICE_RVOL + 2, 0x34);
+    command(WRITE, 4 * VOICE_K1 + 3, 0x56);
+    command(WRITE, 4 * VOICE_K2 + 3, 0x78);
+    get_register(VOICE_K1);
+    get_register(VOICE_K2);
+    command(READ, 4 * VOICE_CR + 3, 0);
+    command(POT, 725, 0);
+    get_register(PAR);
+    get_register(PAR);
+    command(POT, 1023, 0);
+    get_register(PAR);
+}
+
+/* All voices of the table; the host answers an interrupt every fourth frame,
+   so that voices wait for their turn. */
+static void play_voices(void)
+{
+    uint32_t voice;
+    uint32_t round;
+
+    for (voice = 0; voice < TABLE_VOICES; voice++) {
+        set_voice(voice, voices[voice]);
+    }
+    for (round = 0; round < 50; round++) {
+        frames(4);
+        get_register(IRQV);
+    }
+}
+
+/* A voice that stopped by itself starts again; another is stopped, reads as
+   stopped, and goes on. */
+static void play_stops(void)
+{
+    set_voice(0, voices[0]);
+    set_control(6, voices[6][VOICE_CR] | CR_STP1);
+    set_control(HIGH_PAGES + 7, voices[7][VOICE_CR] | CR_STP0);
+    frames(20);
+    get_registers(HIGH_PAGES + 6, 10);
+    set_control(HIGH_PAGES + 6, voices[6][VOICE_CR]);
+    set_control(7, voices[7][VOICE_CR]);
+    frames(40);
+    get_register(IRQV);
+    get_register(IRQV);
+}
+
+/* Fewer voices, and then all again. */
+static void play_fewer(void)
+{
+    turn_to(0);
+    put_register(ACTV, 4);
+    frames(12);
+    put_register(ACTV, 0);
+    frames(4);
+    put_register(ACTV, 31);
+    frames(4);
+}
+
+/* Sums that the host sets go out with the voices' values on top. */
+static void play_sums(void)
+{
+    put_registers(SUM_PAGES, OUTPUT_VALUES, 0x07FFF0u, 0x0B4321u);
+    get_register(0);
+    frames(2);
+}
+
+/* Nine voices one after another on channel 0: it stays at its upper rail
+   until the ninth takes the sum around. Then three on channel 4, down. */
+static void play_chords(void)
+{
+    uint32_t voice;
+
+    for (voice = 16; voice < 25; voice++) {
+        set_voice(voice, highest);
+        frames(6);
+    }
+    for (voice = 25; voice < 28; voice++) {
+        set_voice(voice, lowest);
+        frames(6);
+    }
+}
+
+/* What all this left in the record. */
+static void play_end(void)
+{
+    uint32_t voice;
+
+    for (voice = 0; voice < 28; voice++) {
+        get_registers(voice, 11);
+        get_registers(HIGH_PAGES + voice, 10);
+    }
+    get_register(IRQV);
+    command(RESET, 0, 0);
+    frames(1);
+}
+
+static void make(void)
+{
+    uint32_t place;
+
+    for (place = 0; place < MEMORY_WORDS; place++) {
+        put_number(sample_word(place), 2);
+    }
+    play_refused();
+    play_registers();
+    play_latches();
+    play_voices();
+    play_stops();
+    play_fewer();
+    play_sums();
+    play_chords();
+    play_end();
+    put_number(0, 3); /* a command cut short, which gives no line */
+}
+
+/* ==== playing ============================================================= */
+
+static unsigned char input[MOST_BYTES];
+static uint16_t memory[MEMORY_WORDS];
+static uint32_t record[RECORD_WORDS];
+static int32_t output[OUTPUT_VALUES];
+
+static uint32_t number_of(const unsigned char *bytes, uint32_t count)
+{
+    uint32_t number = 0;
+    uint32_t place;
+
+    for (place = 0; place < count; place++) {
+        number = 256u * number + bytes[place];
+    }
+    return number;
+}
+
+static void print_frame(void)
+{
+    uint32_t place;
+
+    printf("%" PRIu32,
+           reference_frame(record, RECORD_WORDS, memory, MEMORY_WORDS, output,
+                           OUTPUT_VALUES));
+    for (place = 0; place < OUTPUT_VALUES; place++) {
+        printf(" %" PRId32, output[place]);
+    }
+    printf("\n");
+}
+
+static void print_read(uint32_t address)
+{
+    uint8_t byte;
+    uint32_t answer = reference_read(record, RECORD_WORDS, address, &byte);
+
+    printf("%" PRIu32 " %u\n", answer, (unsigned)byte);
+}
+
+static void print_answer(uint32_t answer)
+{
+    printf("%" PRIu32 "\n", answer);
+}
+
+static void play_command(const unsigned char *bytes)
+{
+    uint32_t number = number_of(bytes + 1, 4);
+
+    switch (bytes[0]) {
+    case RESET:
+        print_answer(reference_reset(record, RECORD_WORDS));
+        break;
+    case WRITE:
+        print_answer(reference_write(record, RECORD_WORDS, number, bytes[5]));
+        break;
+    case READ:
+        print_read(number);
+        break;
+    case POT:
+        print_answer(reference_set_pot(record, RECORD_WORDS, number));
+        break;
+    case FRAME:
+        print_frame();
+        break;
+    default:
+        printf("no call\n");
+    }
+}
+
+static void play(void)
+{
+    size_t bytes = fread(input, 1, sizeof input, stdin);
+    size_t place;
+
+    if (bytes < 2 * MEMORY_WORDS) {
+        return;
+    }
+    for (place = 0; place < MEMORY_WORDS; place++) {
+        memory[place] = (uint16_t)number_of(input + 2 * place, 2);
+    }
+    /* No valid record: what is asked before a reset is refused. */
+    memset(record, 0xFF, sizeof record);
+    for (place = 2 * MEMORY_WORDS; place + COMMAND_BYTES <= bytes;
+         place += COMMAND_BYTES) {
+        play_command(input + place);
+    }
+}
+
+int main(int count, char **words)
+{
+    if (count == 2 && strcmp(words[1], "make") == 0) {
+        make();
+        return 0;
+    }
+    if (count == 2 && strcmp(words[1], "play") == 0) {
+        play();
+        return 0;
+    }
+    fprintf(stderr, "usage: score make, or score play < SCORE\n");
+    return 2;
+}
