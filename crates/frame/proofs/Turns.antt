@@ -2,20 +2,20 @@
 -- In order: what a turn does with a voice's words, and what it adds to each sum; the parts of a turn; the turn; the closing; the output.
 -- Assumes nothing.
 use mathlib.Core.Path.{_≡_, refl, sym, ap, _∙_}
-use mathlib.Core.Bool.{true, false, cond, _&&_}
-use mathlib.Core.List.{List, [], _∷_, _++_, map}
+use mathlib.Core.Bool.{cond, _&&_}
+use mathlib.Core.List.{List, _++_, map}
 use mathlib.Core.Logic.{_≢_}
-use Prim.Native.Nat.{ℕ, _+_, _-_, _*_, _%_, _^_, _<_, _≤_}
+use Prim.Native.Nat.{ℕ, _+_, _-_, _*_, _%_, _<_, _≤_}
 use native.Mathlib.Nat.{mod-eq-of-lt}
 use native.Mathlib.Omega.{arith}
 use borrow.Author.Tests.{eqb-true, eqb-false, ltb-true, ltb-false, ne-eqb}
 use lib.Bits.{bitAnd, and-mask}
-use lib.Dec.{eqb, ltb, lit<}
+use lib.Dec.{eqb, ltb}
 use lib.IntN.{ℤ}
-use lib.ListN.{length, getD, set, take, drop, replicate, length-take, length-drop, length-append, length-set, length-map, getD-replicate, List·getD-append}
+use lib.ListN.{length, getD, set, take, drop, replicate, length-drop, length-append, length-map, getD-replicate, List·getD-append}
 use lib.Seq.{getD-take, getD-drop, getD-append-add, getD-set-same, getD-set-other, length-take-le, ext-getD}
 use Rattle.numbers.specs.Numbers.{word}
-use Rattle.numbers.proofs.Tests.{either, split, cases}
+use Rattle.numbers.proofs.Tests.{either, cases}
 use Rattle.control.specs.Control.{flagOf, channelOf, IRQ}
 use Rattle.channel.specs.Channel.{mixed, putOut}
 use Rattle.channel.proofs.Laws.{mixed-is}

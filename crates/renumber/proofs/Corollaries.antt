@@ -10,7 +10,7 @@ use Prim.Native.Nat.{ℕ, _+_, _-_, _*_, _/_, _%_, _^_, _<_, _≤_}
 use native.Mathlib.Decide.{ℕ-discrete}
 use native.Mathlib.Omega.{arith}
 use lib.Bits.{and-mask}
-use lib.Dec.{eqb, ltb, lit<}
+use lib.Dec.{ltb, lit<}
 use lib.IntN.{ℤ, pos}
 use lib.ListN.{length, getD, set, replicate}
 use lib.Seq.{getD-set-same, getD-set-other}
@@ -24,7 +24,7 @@ use Rattle.registers.specs.Registers.{registerOf, lowPage, highPage, byteOf, wi
 use Rattle.registers.specs.declared.Register.the-variants.{Word}
 use Rattle.frame.proofs.Calls.{not-refused-frame}
 use Rattle.calls.specs.Calls.{Call, Write, Frame, answerTo, after, run, outputs}
-use Rattle.renumber.specs.Demand.{Renumbering, Match, SameVoice, Put, ofVoice, Phase, idle, begun, Between, nothing, reading, potting, refused, paging, first, next, last}
+use Rattle.renumber.specs.Demand.{Renumbering, Match, Put, ofVoice, Phase, idle, Between, nothing, reading, potting, refused, paging, first, next, last}
 use Rattle.renumber.specs.Demand.{Log, End, Then, Trace, stop, go-on, SameWrites, Alike}
 use Rattle.renumber.specs.Score.{pageOf, placeOf, writes, allWrites, Step, callsOf, putOn, stepOn, Fits, AllFit, Playable}
 use Rattle.renumber.proofs.Same.{same-equal}

@@ -8,25 +8,23 @@ use mathlib.Core.List.{List, [], _∷_, _++_}
 use Prim.Native.Nat.{ℕ, zero, suc, _+_, _*_, _%_, _≤_, _<_}
 use native.Mathlib.Decide.{ℕ-discrete}
 use native.Mathlib.Omega.{arith}
-use lib.Dec.{eqb, ltb, lit<}
-use lib.IntN.{ℤ, pos, natAbs}
+use lib.Dec.{eqb, lit<}
+use lib.IntN.{ℤ}
 use lib.ListN.{length, getD, set, length-set}
 use lib.Seq.{getD-set-other}
-use borrow.Author.Tests.{eq-eqb, ne-eqb, lt-ltb}
-use Rattle.answer.specs.declared.Answer.the-variants.{Done}
-use Rattle.control.specs.Control.{bitOf, flagOf, withBit, runs, IRQ}
+use borrow.Author.Tests.{ne-eqb, lt-ltb}
+use Rattle.control.specs.Control.{bitOf, withBit, IRQ}
 use Rattle.control.proofs.Agree.{put-apart}
 use Rattle.machine.specs.Words.{PAGE, IRQV, ACTV, SLOW, SUMS, voiceBits, aboveBits, bitsOf, cut, cutTo, isVector, valid}
 use Rattle.machine.specs.Voices.{voiceAt, putVoice}
-use Rattle.machine.specs.Calls.{sized, checked, resetWord, wordsFrom, fresh}
+use Rattle.machine.specs.Calls.{resetWord, wordsFrom, fresh}
 use Rattle.machine.proofs.Parts.{voice-same, voice-set-above, put-length, put-same, put-other, put-out}
 use Rattle.machine.proofs.Fresh.{fresh-length, fresh-at}
 use Rattle.machine.proofs.Valid.{sound}
-use Rattle.registers.specs.Registers.{registerOf, lowPage, highPage, sumPage, withByte, stored, written, readAs, acknowledged, touched, opened}
-use Rattle.registers.specs.Calls.{byteAnswer, writeRecord, readRecord, potAnswer, potRecord}
-use Rattle.calls.specs.Calls.{Call, Write, Read, SetPot, Frame, answerTo, after, outputFrom, run, outputs}
+use Rattle.registers.specs.Registers.{registerOf, lowPage}
+use Rattle.calls.specs.Calls.{Call, Write, Read, SetPot, Frame, run, outputs}
 use Rattle.renumber.specs.Demand.{Renumbering, SameVoice, Match, Put, ofVoice, idle, Between, nothing, reading, potting, refused, paging, first, next, last}
-use Rattle.renumber.specs.Demand.{Log, End, Then, Trace, stop, go-on, SameWrites, Alike}
+use Rattle.renumber.specs.Demand.{End, Then, Trace, stop, go-on, SameWrites}
 use Rattle.renumber.specs.Score.{writes, Fits}
 use Rattle.renumber.proofs.Same.{same-equal}
 use Rattle.renumber.proofs.Stretch.{between}

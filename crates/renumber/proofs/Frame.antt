@@ -2,16 +2,14 @@
 -- match after it.
 -- In order: the turns of one machine; a frame that is not refused; two machines. Assumes nothing.
 use mathlib.Core.Path.{_≡_, refl, sym, ap, _∙_}
-use mathlib.Core.Logic.{_≢_}
-use mathlib.Core.Bool.{true}
 use mathlib.Core.List.{List}
-use Prim.Native.Nat.{ℕ, zero, suc, _+_, _*_, _%_, _≤_, _<_}
+use Prim.Native.Nat.{ℕ, zero, suc, _+_, _%_, _≤_, _<_}
 use native.Mathlib.Decide.{ℕ-discrete}
 use native.Mathlib.Nat.{not-suc-le-zero, mod-add-mod, add-assoc}
 use native.Mathlib.Numerals.{add-one}
 use native.Mathlib.Omega.{arith}
 use lib.IntN.{ℤ}
-use lib.ListN.{length, getD}
+use lib.ListN.{getD}
 use Rattle.numbers.proofs.Tests.{cases}
 use Rattle.answer.specs.declared.Answer.the-variants.{Done}
 use Rattle.machine.specs.Words.{ACTV, SLOW, SUMS}
@@ -21,9 +19,9 @@ use Rattle.frame.specs.Frame.{turnAt, turns, played, heard, closed, frameRecord
 use Rattle.frame.proofs.Keeps.{sound-turn, sum-small, active-le}
 use Rattle.frame.proofs.Turns.{wordsAfter, share, turn-word, turn-sum, turn-same, turn-other, closed-voice, closed-active, closed-slow, closed-sum, sound-closed, heard-length, heard-same}
 use Rattle.calls.specs.Calls.{Frame, answerTo, after, outputFrom}
-use Rattle.renumber.specs.Demand.{Into, OneToOne, Renumbering, SameVoice, Match, SameFrame}
+use Rattle.renumber.specs.Demand.{Into, Renumbering, SameVoice, Match, SameFrame}
 use Rattle.renumber.proofs.Sum.{sum, sum-ext, sum-renumbered, one-to-one-below, stays-out}
-use Rattle.renumber.proofs.Same.{same-equal, same-back, same-then, same-after, same-share}
+use Rattle.renumber.proofs.Same.{same-after, same-share}
 
 -- ---- the turns of voices 0 to k - 1
 

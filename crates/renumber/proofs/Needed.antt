@@ -1,7 +1,7 @@
 -- What the theorem asks is needed: without it the same note sounds otherwise. Each case is computed on the machines of the example, and
 -- compares the first of the twelve values.
 -- In order: how loud each case is; that the note sounds; then, each as what may not differ, the sample memory, a write that is no voice's,
--- an active voice that becomes an inactive one, and a channel sum. Assumes nothing.
+-- an active voice that becomes an inactive one, and a channel sum; last the flags, which may come to differ. Assumes nothing.
 use mathlib.Core.Path.{_≡_, refl, ap}
 use mathlib.Core.Logic.{_≢_}
 use mathlib.Core.List.{List, [], _∷_}
@@ -16,15 +16,15 @@ use Rattle.filter.specs.Filter.{lowPass, highPass, coefficient, pole3, pole4, f
 use Rattle.volume.specs.Volume.{mantissa, exponent, volumeOf, panned}
 use Rattle.channel.specs.Channel.{mixed, putOut}
 use Rattle.address.specs.Address.{raised, event, forward, reverse, stepped}
-use Rattle.machine.specs.Words.{PAGE, ACTV, SUMS, voiceBits, aboveBits, bitsOf, cut, cutTo, isVector, valid, wordOf}
+use Rattle.machine.specs.Words.{ACTV, SUMS, voiceBits, aboveBits, bitsOf, cut, cutTo, isVector, valid, wordOf}
 use Rattle.machine.specs.Voices.{voiceAt, putVoice}
 use Rattle.machine.specs.Calls.{sized, checked, resetWord, wordsFrom, fresh}
-use Rattle.registers.specs.Registers.{registerOf, lowPage, highPage, sumPage, withByte, stored, written}
-use Rattle.registers.specs.Calls.{byteAnswer, writeRecord}
+use Rattle.registers.specs.Registers.{registerOf, lowPage, highPage, sumPage, withByte, stored, written, readAs, acknowledged, touched, opened}
+use Rattle.registers.specs.Calls.{byteAnswer, writeRecord, readRecord}
 use Rattle.voice.specs.Turn.{levels, withOutputs, moved, sampled, stoppedTurn, runningTurn, turnOf, outputs as lastOutputs}
 use Rattle.frame.specs.Voices.{wordsOf}
 use Rattle.frame.specs.Frame.{summed, added, signalled, turned, turnAt, turns, heard, silenced, closed, played, frameAnswer, frameRecord, frameOutput}
-use Rattle.calls.specs.Calls.{Call, Write, Frame, after, outputFrom, run, outputs}
+use Rattle.calls.specs.Calls.{Call, Write, Read, Frame, after, outputFrom, run, outputs}
 use Rattle.renumber.proofs.Example.{note, machine, one, other}
 
 -- a frame over sample memory that holds one value; and how loud a run is on the left of channel 0, in its first frame
@@ -72,3 +72,8 @@ active-needed = differ (outputs (set one ACTV 3) (frame 1000 ∷ [])) (outputs (
 -- channel sums are equal
 pub sums-needed : outputs one (frame 1000 ∷ []) ≢ outputs (set other SUMS 1) (frame 1000 ∷ [])
 sums-needed = differ (outputs one (frame 1000 ∷ [])) (outputs (set other SUMS 1) (frame 1000 ∷ [])) (λ e. omega (arith, computed .0, computed .6))
+
+-- Interrupt flags are excepted: a read of the vector on one machine alone clears a flag there.
+pub flags-needed : bitOf IRQ (getD (run one []) (wordOf 3 0) 0) ≢ bitOf IRQ (getD (run one (Read 56 ∷ [])) (wordOf 3 0) 0)
+unfolding one machine note putVoice fresh wordsFrom resetWord valid cutTo cut bitsOf voiceBits aboveBits isVector sized checked run after byteAnswer readRecord opened touched acknowledged readAs registerOf bitOf withBit
+flags-needed e = let q : _≡_ {A = ℕ} 1 0 = e in omega arith

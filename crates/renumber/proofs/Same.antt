@@ -1,9 +1,8 @@
 -- Voices that hold the same registers, interrupt flags excepted.
 -- In order: such voices are as good as equal; the same word stored in both leaves them so; so does a turn, in which they add the same.
 -- Assumes nothing.
-use mathlib.Core.Path.{_≡_, refl, sym, ap, _∙_}
-use mathlib.Core.Logic.{_≢_}
-use mathlib.Core.List.{List, [], _∷_}
+use mathlib.Core.Path.{_≡_, sym, ap, _∙_}
+use mathlib.Core.List.{List}
 use Prim.Native.Nat.{ℕ, zero, suc, _<_}
 use native.Mathlib.Decide.{ℕ-discrete}
 use native.Mathlib.Nat.{not-suc-le-zero}
@@ -11,10 +10,9 @@ use native.Mathlib.Omega.{arith}
 use lib.Dec.{lit<}
 use lib.ListN.{length, getD, set}
 use lib.Seq.{getD-set-same, getD-set-other}
-use Rattle.control.specs.Control.{bitOf, channelOf, IRQ}
+use Rattle.control.specs.Control.{bitOf}
 use Rattle.control.proofs.Agree.{channel-agrees}
 use Rattle.voice.specs.declared.Voice.{Voice}
-use Rattle.voice.specs.Turn.{turnOf}
 use Rattle.voice.proofs.Flag.{besideCR, ButFlag, same-turn}
 use Rattle.frame.specs.Voices.{voiceOf, wordsOf}
 use Rattle.frame.proofs.Turns.{wordsAfter, portion, share}

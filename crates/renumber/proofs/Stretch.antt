@@ -4,22 +4,20 @@
 -- results and refused writes; the write latch, byte by byte; the calls. Assumes nothing.
 use mathlib.Core.Path.{_≡_, refl, sym, ap, _∙_}
 use mathlib.Core.Logic.{_≢_}
-use mathlib.Core.Bool.{true, cond}
 use mathlib.Core.List.{List, [], _∷_, _++_}
-use Prim.Native.Nat.{ℕ, zero, suc, _+_, _-_, _*_, _/_, _%_, _^_, _≤_, _<_}
+use Prim.Native.Nat.{ℕ, zero, suc, _+_, _-_, _*_, _/_, _^_, _≤_, _<_}
 use native.Mathlib.Decide.{ℕ-discrete}
 use native.Mathlib.Nat.{zero-add}
 use native.Mathlib.Omega.{arith}
 use lib.Bits.{bitAnd}
-use lib.Dec.{eqb, ltb, lit<, lit≤}
+use lib.Dec.{eqb, lit<, lit≤}
 use lib.ListN.{length, getD, set, length-set}
 use lib.Seq.{getD-set-same, getD-set-other}
 use borrow.Author.Tests.{eqb-true, eq-eqb, ne-eqb, le-ltb}
 use Rattle.numbers.proofs.Tests.{either, split, cases}
 use Rattle.answer.specs.Answer.{isDone}
-use Rattle.answer.specs.declared.Answer.{Answer}
 use Rattle.answer.specs.declared.Answer.the-variants.{Address}
-use Rattle.machine.specs.Words.{PAGE, IRQV, PAR, ACTV, SLOW, WRITE, READ, SUMS, wordOf, voiceBits, bitsOf, cut, isVector}
+use Rattle.machine.specs.Words.{PAGE, IRQV, PAR, ACTV, SLOW, WRITE, READ, SUMS, wordOf, cut, isVector}
 use Rattle.machine.specs.Voices.{voiceAt}
 use Rattle.machine.proofs.Parts.{voice-word, voice-length, voice-same, voice-set, voice-set-out}
 use Rattle.machine.proofs.Valid.{Sound, sound, is-valid, bits-voice, cut-again, sound-set}
@@ -53,7 +51,7 @@ puts-both : (v : ℕ) (ps qs : List Put) (w : List ℕ) → puts (ofVoice v (ps 
 unfolding puts
 puts-both v [] qs w = refl
 puts-both v (p ∷ ps) qs w = split _ (eqb v (p .voice))
-    (λ t. rw t (puts-both v ps qs (set w (p .word) (cut (p .word) (p .number)))))
+    (λ t. rw t (puts-both v ps qs _))
     (λ t. rw t (puts-both v ps qs w))
 
 -- ---- a machine after some writes

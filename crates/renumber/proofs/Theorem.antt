@@ -2,17 +2,15 @@
 -- In order: two machines after the calls between two frames; the output of a run; the traces, frame by frame; the theorem.
 -- Assumes nothing.
 use mathlib.Core.Path.{_≡_, refl, sym, ap, ap₂, _∙_}
-use mathlib.Core.Bool.{true}
 use mathlib.Core.List.{List, [], _∷_, _++_, append-nil}
 use Prim.Native.Nat.{ℕ}
-use lib.IntN.{ℤ}
 use lib.ListN.{getD}
 use Rattle.answer.specs.declared.Answer.the-variants.{Done}
 use Rattle.machine.specs.Words.{ACTV}
 use Rattle.machine.specs.Voices.{voiceAt}
 use Rattle.machine.proofs.Valid.{Sound, sound}
 use Rattle.calls.specs.Calls.{Call, Frame, answerTo, after, outputFrom, run, outputs}
-use Rattle.renumber.specs.Demand.{Into, Renumbering, SameVoice, Match, Put, ofVoice, Phase, idle, Between, nothing, reading, potting, refused, paging, first, next, last}
+use Rattle.renumber.specs.Demand.{Into, Renumbering, Match, Put, ofVoice, Phase, idle, Between, nothing, reading, potting, refused, paging, first, next, last}
 use Rattle.renumber.specs.Demand.{Log, Trace, stop, go-on, SameWrites, Alike, SameFrame, Along, Inaudible}
 use Rattle.renumber.proofs.Same.{same-equal, same-back, same-then}
 use Rattle.renumber.proofs.Frame.{frame-same, frame-match, frame-sound, frame-active}

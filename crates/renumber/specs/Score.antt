@@ -1,12 +1,11 @@
 -- The calls of a plain host. Before each frame it writes whole registers of voices, each after its page; then it runs the frame.
 -- In order: where a word of a voice is written; the calls of a write; a score and its calls; the score on other voices; what a score may
 -- hold. Assumes nothing.
-use mathlib.Core.Path.{_≡_}
 use mathlib.Core.Bool.{cond}
 use mathlib.Core.List.{List, [], _∷_, _++_, map}
 use Prim.Native.Nat.{ℕ, _+_, _-_, _*_, _^_, _<_, _≤_}
 use lib.Dec.{ltb}
-use lib.IntN.{ℤ, pos}
+use lib.IntN.{pos}
 use lib.ListN.{length, replicate}
 use Rattle.registers.specs.Registers.{byteOf}
 use Rattle.calls.specs.Calls.{Call, Write, Frame}

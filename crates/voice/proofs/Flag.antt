@@ -1,26 +1,23 @@
 -- A turn carries the interrupt flag and does not heed it: two voices that hold the same registers, interrupt flags excepted, add the same
 -- to their channel, which is the same, and hold the same registers after it, interrupt flags excepted.
 -- In order: such voices; what the turn reads of them; the turn. Assumes nothing.
-use mathlib.Core.Path.{_≡_, refl, sym, ap, _∙_}
-use mathlib.Core.Bool.{cond}
+use mathlib.Core.Path.{_≡_, refl, ap, _∙_}
 use mathlib.Core.List.{List}
 use Prim.Native.Nat.{ℕ}
 use native.Mathlib.Omega.{arith}
 use lib.IntN.{ℤ, pos}
 use Rattle.numbers.proofs.Tests.{alongside}
-use Rattle.control.specs.Control.{runs, LP3, LP4, CMPD, IRQ}
+use Rattle.control.specs.Control.{LP3, LP4, CMPD, IRQ}
 use Rattle.control.proofs.Agree.{AgreeBut, flag-agrees, bank-agrees, runs-agrees}
 use Rattle.sample.specs.Sample.{fetched, fraction, between}
 use Rattle.sample.specs.declared.Samples.{Samples}
 use Rattle.sample.proofs.Laws.{fetched-bank}
 use Rattle.filter.specs.Filter.{filtered}
-use Rattle.filter.specs.declared.Poles.{Poles}
 use Rattle.filter.proofs.Laws.{filtered-passes}
 use Rattle.volume.specs.Volume.{panned}
 use Rattle.address.specs.Address.{stepped}
 use Rattle.address.proofs.Agree.{SamePlace, stepped-agrees}
 use Rattle.voice.specs.declared.Voice.{Voice}
-use Rattle.voice.specs.declared.Levels.{Levels}
 use Rattle.voice.specs.declared.Turn.{Turn}
 use Rattle.voice.specs.Turn.{outputs, levels, withOutputs, moved, sampled, stoppedTurn, runningTurn, turnOf}
 
