@@ -85,7 +85,7 @@ word-sum n a b =
     ap (word n) ((λ i. (s .1) i +ℤ (t .1) i) ∙ ⊖-add a (s .0 * 2 ^ n) b (t .0 * 2 ^ n) ∙ ⊖-eq (a + b) (s .0 * 2 ^ n + t .0 * 2 ^ n) (a + b) ((s .0 + t .0) * 2 ^ n) (omega arith))
     ∙ word-⊖ n (a + b) (s .0 + t .0)
 
--- ---- a held, by its two tests
+-- ---- a number held to limits, by its two tests
 module _ (lo hi z : ℤ) where
   pub held-lo : ltZ z lo ≡ true → held lo hi z ≡ lo
   unfolding held
@@ -99,13 +99,13 @@ module _ (lo hi z : ℤ) where
   unfolding held
   held-in p q = rw (p, q)
 
--- what is helded to -(h + 1) .. h is in there
+-- what is held to -(h + 1) .. h is in there
 pub held-mag : (h : ℕ) (z : ℤ) → mag (held (negsuc h) (pos h) z) ≤ h
 unfolding held
 held-mag h (pos a) = either (λ z. mag z ≤ h) (ltb h a) (pos h) (pos a) (λ t. le-refl h) (λ t. ltb-false h a t)
 held-mag h (negsuc a) = either (λ z. mag z ≤ h) (ltb h a) (negsuc h) (negsuc a) (λ t. le-refl h) (λ t. ltb-false h a t)
 
--- what is helded to 0 .. h is a natural number there
+-- what is held to 0 .. h is a natural number there
 pub held-nat : (h : ℕ) (z : ℤ) → T (nonNeg (held (pos 0) (pos h) z)) × Within h (held (pos 0) (pos h) z)
 unfolding held
 held-nat h (pos a) =
