@@ -9,8 +9,7 @@ use Prim.Native.Nat.{ℕ, zero, suc, _+_, _-_, _*_, _/_, _%_, _<_, _≤_, min}
 use native.Mathlib.Nat.{not-suc-le-zero}
 use native.Mathlib.Decide.{ℕ-discrete}
 use native.Mathlib.Omega.{arith}
-use lib.Arith.{bin-ind}
-use lib.Bits.{bitAnd, and-step, and-le-r}
+use lib.Bits.{bitAnd, and-le-r, and-zero-l}
 use lib.Dec.{eqb, ltb}
 use lib.ListN.{length, getD, set, take, drop, length-set, length-take, length-drop}
 use lib.Seq.{getD-take, getD-drop, getD-set-same, getD-set-other}
@@ -18,7 +17,8 @@ use borrow.Author.Tests.{eq-eqb, eqb-true, lt-ltb, le-ltb}
 use Rattle.numbers.proofs.Tests.{cases, split}
 use Rattle.machine.specs.Words.{WORDS, ABOVE, IRQV, voiceBits, aboveBits, bitsOf, cut, cutTo, isVector, valid}
 use Rattle.machine.specs.Voices.{voiceAt, putVoice}
-use Rattle.machine.specs.Kept.{keptTo, keptBy, voicesKept}
+use Rattle.machine.specs.Kept.{keptTo, keptBy, gathered, gatheredKept}
+use Rattle.machine.proofs.Kept.{and-again, or-kept}
 use Rattle.machine.proofs.Parts.{voice-word, put-length, put-in, put-out}
 
 -- ---- tests
@@ -102,8 +102,20 @@ kept-all : (w k : List ℕ) (n : ℕ) → ((i : ℕ) → i < n → bitAnd (getD 
 unfolding keptTo passes
 kept-all w k n f = from-each (passes w k) (keptTo w k) refl (λ j. refl) n (λ i l. eq-eqb (bitAnd (getD w i 0) (getD k i 0)) (getD w i 0) (f i l))
 
-voice-passes : List ℕ → ℕ → Bool
-voice-passes m v = keptBy (voiceAt m v) voiceBits
+-- word j of voice v, and of all voices at once
+voice-passes : List ℕ → ℕ → ℕ → Bool
+voice-passes m j v = eqb (bitAnd (getD m (20 * v + j) 0) (getD voiceBits j 0)) (getD m (20 * v + j) 0)
+
+all-pass : List ℕ → ℕ → ℕ → Bool
+all-pass m j n = eqb (bitAnd (gathered m j n) (getD voiceBits j 0)) (gathered m j n)
+
+none-passes : (m : List ℕ) (j : ℕ) → all-pass m j zero ≡ true
+unfolding all-pass gathered
+none-passes m j = ap (λ (x : ℕ). eqb x 0) (and-zero-l (getD voiceBits j 0))
+
+one-passes : (m : List ℕ) (j v : ℕ) → all-pass m j (suc v) ≡ (all-pass m j v && voice-passes m j v)
+unfolding all-pass gathered voice-passes
+one-passes m j v = or-kept (gathered m j v) (getD m (20 * v + j) 0) (getD voiceBits j 0)
 
 -- the words above the voices, as the check is lent them
 unfoldable pub above-part : List ℕ → List ℕ
@@ -112,9 +124,9 @@ above-part m = take 23 (drop 640 m)
 above-word : (m : List ℕ) (j : ℕ) → j < 23 → getD (take 23 (drop 640 m)) j 0 ≡ getD m (640 + j) 0
 above-word m j h = rw (getD-take, getD-drop)
 
--- voice by voice and above, or word by word: one test
-words-found : (m : List ℕ) → voicesKept m 32 ≡ true → keptBy (above-part m) aboveBits ≡ true → (i : ℕ) → i < 663 → cut i (getD m i 0) ≡ getD m i 0
-unfolding cut voicesKept voice-passes above-part voiceBits aboveBits
+-- all voices at once and above, or word by word: one test
+words-found : (m : List ℕ) → gatheredKept m 20 ≡ true → keptBy (above-part m) aboveBits ≡ true → (i : ℕ) → i < 663 → cut i (getD m i 0) ≡ getD m i 0
+unfolding cut gatheredKept all-pass voice-passes above-part aboveBits
 words-found m hv ha i h = cases i 640 (bitAnd (getD m i 0) (bitsOf i) ≡ getD m i 0)
     (λ l.
     let v = i / 20 in
@@ -122,8 +134,8 @@ words-found m hv ha i h = cases i 640 (bitAnd (getD m i 0) (bitsOf i) ≡ getD m
     let jk : j < 20 = omega arith in
     let vk : v < 32 = omega arith in
     let e : 20 * v + j ≡ i = omega arith in
-    let p = kept-each (voiceAt m v) voiceBits 20 (each (voice-passes m) (voicesKept m) refl (λ u. refl) 32 hv v vk) j jk in
-    let q : bitAnd (getD m (20 * v + j) 0) (bitsOf (20 * v + j)) ≡ getD m (20 * v + j) 0 = rw (← (voice-word m v j jk), bits-voice v j vk jk) p in
+    let p = each (voice-passes m j) (all-pass m j) (none-passes m j) (one-passes m j) 32 (each (λ (u : ℕ). all-pass m u 32) (gatheredKept m) refl (λ u. refl) 20 hv j jk) v vk in
+    let q : bitAnd (getD m (20 * v + j) 0) (bitsOf (20 * v + j)) ≡ getD m (20 * v + j) 0 = rw (bits-voice v j vk jk) (eqb-true (bitAnd (getD m (20 * v + j) 0) (getD voiceBits j 0)) (getD m (20 * v + j) 0) p) in
     subst (λ (k : ℕ). bitAnd (getD m k 0) (bitsOf k) ≡ getD m k 0) e q)
     (λ l.
     let j = i - 640 in
@@ -133,35 +145,22 @@ words-found m hv ha i h = cases i 640 (bitAnd (getD m i 0) (bitsOf i) ≡ getD m
     let q : bitAnd (getD m (640 + j) 0) (bitsOf (640 + j)) ≡ getD m (640 + j) 0 = rw (← (above-word m j jk), bits-above j) p in
     subst (λ (k : ℕ). bitAnd (getD m k 0) (bitsOf k) ≡ getD m k 0) e q)
 
-voices-found : (m : List ℕ) → ((i : ℕ) → i < 663 → cut i (getD m i 0) ≡ getD m i 0) → voicesKept m 32 ≡ true
-unfolding cut voicesKept voice-passes voiceBits
-voices-found m f = from-each (voice-passes m) (voicesKept m) refl (λ u. refl) 32
-    (λ v k. kept-all (voiceAt m v) voiceBits 20 (λ j l. rw (voice-word m v j l, ← (bits-voice v j k l)) (f (20 * v + j) (omega arith))))
+voices-found : (m : List ℕ) → ((i : ℕ) → i < 663 → cut i (getD m i 0) ≡ getD m i 0) → gatheredKept m 20 ≡ true
+unfolding cut gatheredKept all-pass voice-passes
+voices-found m f = from-each (λ (j : ℕ). all-pass m j 32) (gatheredKept m) refl (λ u. refl) 20
+    (λ j k. from-each (voice-passes m j) (all-pass m j) (none-passes m j) (one-passes m j) 32
+    (λ v l. eq-eqb (bitAnd (getD m (20 * v + j) 0) (getD voiceBits j 0)) (getD m (20 * v + j) 0) (rw (← (bits-voice v j l k)) (f (20 * v + j) (omega arith)))))
 
 above-found : (m : List ℕ) → ((i : ℕ) → i < 663 → cut i (getD m i 0) ≡ getD m i 0) → keptBy (above-part m) aboveBits ≡ true
 unfolding cut above-part aboveBits
 above-found m f = kept-all (above-part m) aboveBits 23 (λ j l. rw (above-word m j l, ← (bits-above j)) (f (640 + j) (omega arith)))
 
-pub words-test : (m : List ℕ) → (voicesKept m 32 && keptBy (above-part m) aboveBits) ≡ cutTo m 663
-words-test m = same-bool (voicesKept m 32 && keptBy (above-part m) aboveBits) (cutTo m 663)
-    (λ h. let p = both (voicesKept m 32) (keptBy (above-part m) aboveBits) h in cut-all m 663 (words-found m (p .0) (p .1)))
+pub words-test : (m : List ℕ) → (gatheredKept m 20 && keptBy (above-part m) aboveBits) ≡ cutTo m 663
+words-test m = same-bool (gatheredKept m 20 && keptBy (above-part m) aboveBits) (cutTo m 663)
+    (λ h. let p = both (gatheredKept m 20) (keptBy (above-part m) aboveBits) h in cut-all m 663 (words-found m (p .0) (p .1)))
     (λ h. let f = cut-each m 663 h in ap₂ _&&_ (voices-found m f) (above-found m f))
 
 -- ---- what keeps a record valid
-
--- a number that is cut to some bits is cut to them already
-and-again : (x m : ℕ) → bitAnd (bitAnd x m) m ≡ bitAnd x m
-and-again =
-    bin-ind (λ (n : ℕ). (m : ℕ) → bitAnd (bitAnd n m) m ≡ bitAnd n m) (λ m. refl)
-    (λ n ih m.
-    let a : ℕ = bitAnd (n / 2) (m / 2) in
-    let b : ℕ = min (n % 2) (m % 2) in
-    let half : (a * 2 + b) / 2 ≡ a = omega arith in
-    let odd : (a * 2 + b) % 2 ≡ b = omega arith in
-    let low : min b (m % 2) ≡ b = omega arith in
-    ap (λ (z : ℕ). bitAnd z m) (and-step n m) ∙ and-step (a * 2 + b) m
-    ∙ ap₂ (λ (p q : ℕ). bitAnd p (m / 2) * 2 + min q (m % 2)) half odd
-    ∙ ap₂ (λ (p q : ℕ). p * 2 + q) (ih (m / 2)) low ∙ sym (and-step n m))
 
 pub cut-again : (i x : ℕ) → cut i (cut i x) ≡ cut i x
 unfolding cut

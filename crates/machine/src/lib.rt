@@ -4,7 +4,7 @@ ghost use Prim.Native.Nat.{_<_};
 ghost use lib.Dec.{eqb};
 ghost use lib.ListN.{length};
 ghost use Rattle.machine.specs.Words.{bitsOf};
-ghost use Rattle.machine.specs.Kept.{keptBy};
+ghost use Rattle.machine.specs.Kept.{keptBy, gathered};
 ghost use Rattle.machine.specs.Calls.{checked, Resets, fresh};
 ghost use Rattle.machine.specs.Calls.{resetWord as Calls·resetWord};
 use answer::Answer;
@@ -110,10 +110,9 @@ pub fn check(m: &[u32]) -> Answer
     }
     let voice = VOICE_BITS;
     let mut stray: u32 = 0;
-    for v in 0..32 {
-        let a = 20 * v;
-        let e = a + 20;
-        stray = stray | stray_bits(&m[a..e], &voice);
+    for j in 0..20 {
+        let all = gather(m, j);
+        stray = stray | (all ^ (all & voice[j]));
     }
     let above = ABOVE_BITS;
     let rest = stray_bits(&m[640..663], &above);
@@ -128,6 +127,19 @@ pub fn check(m: &[u32]) -> Answer
         return Answer::Done;
     }
     Answer::RecordWord
+}
+
+// All bits that word j has in any voice. Its bits are kept alike in all of them, so they are held against the mask once.
+fn gather(m: &[u32], j: usize) -> u32
+    requires { ⌜ length (now m) ≡ 663 ⌝ }
+    requires { ⌜ j < 20 ⌝ }
+    ensures { λ r. ⌜ r ≡ gathered (now (m .entry)) j 32 ⌝ }
+{
+    let mut all: u32 = 0;
+    for v in 0..32 {
+        all = all | m[20 * v + j];
+    }
+    all
 }
 
 // The bits of the words that are not among those kept, all in one number.
