@@ -19,7 +19,7 @@ use Rattle.numbers.proofs.Words.{word-lt}
 use Rattle.control.specs.Control.{flagOf, channelOf, IRQ}
 use Rattle.channel.specs.Channel.{mixed}
 use Rattle.channel.proofs.Laws.{mixed-is}
-use Rattle.machine.specs.Words.{voiceBits, aboveBits, bitsOf, cut, isVector}
+use Rattle.machine.specs.Words.{voiceBits, aboveBits, bitsOf, cut, isVector, ACTV, IRQV, SLOW, SUMS}
 use Rattle.machine.specs.Voices.{voiceAt, putVoice}
 use Rattle.machine.proofs.Parts.{voice-length, voice-word, put-length, put-other, put-out, put-same, voice-set-out}
 use Rattle.machine.proofs.Valid.{Sound, sound-set, sound-put, sound-voice, word-le}
@@ -167,41 +167,41 @@ unfolding isVector
 is-vector v h = rw (lt-ltb v 32 h)
 
 sum-bits : ℕ → Bool
-sum-bits c = eqb (bitsOf (651 + c)) 8388607
+sum-bits c = eqb (bitsOf (SUMS + c)) 8388607
 
 all-sum-bits : T (all sum-bits 12)
 unfolding sum-bits bitsOf aboveBits
 all-sum-bits = tt
 
-bits-sum : (c : ℕ) → c < 12 → bitsOf (651 + c) ≡ 8388607
+bits-sum : (c : ℕ) → c < 12 → bitsOf (SUMS + c) ≡ 8388607
 unfolding sum-bits
-bits-sum c h = eqb→eq (bitsOf (651 + c)) 8388607 (all-at sum-bits 12 all-sum-bits c h)
+bits-sum c h = eqb→eq (bitsOf (SUMS + c)) 8388607 (all-at sum-bits 12 all-sum-bits c h)
 
 -- a sum of a valid record has 23 bits
-pub sum-small : (m : List ℕ) → Sound m → (c : ℕ) → c < 12 → getD m (651 + c) 0 < 8388608
-sum-small m s c h = omega (arith, subst (λ (b : ℕ). getD m (651 + c) 0 ≤ b) (bits-sum c h) (word-le m s (651 + c) (omega arith)))
+pub sum-small : (m : List ℕ) → Sound m → (c : ℕ) → c < 12 → getD m (SUMS + c) 0 < 8388608
+sum-small m s c h = omega (arith, subst (λ (b : ℕ). getD m (SUMS + c) 0 ≤ b) (bits-sum c h) (word-le m s (SUMS + c) (omega arith)))
 
 mixed-small : (a b : ℕ) → mixed a b < 8388608
 mixed-small a b = rw (mixed-is a b) (mod-lt (a + b) (lit< tt))
 
-pub sound-summed : {m : List ℕ} (c : ℕ) (z : ℤ) → Sound m → c < 12 → Sound (summed m (651 + c) z)
+pub sound-summed : {m : List ℕ} (c : ℕ) (z : ℤ) → Sound m → c < 12 → Sound (summed m (SUMS + c) z)
 unfolding summed cut
 sound-summed {m} c z s h =
-    sound-set (651 + c) _ s (omega arith) (rw (bits-sum c h) (small-cut 23 _ (mixed-small (getD m (651 + c) 0) (word 23 z)))) (λ e. absurd (let y : ⊥ = omega arith in y))
+    sound-set (SUMS + c) _ s (omega arith) (rw (bits-sum c h) (small-cut 23 _ (mixed-small (getD m (SUMS + c) 0) (word 23 z)))) (λ e. absurd (let y : ⊥ = omega arith in y))
 
 pub sound-added : {m : List ℕ} (c : ℕ) (left right : ℤ) → Sound m → Sound (added m c left right)
 unfolding added
 sound-added {m} c left right s = either Sound (ltb c 6) _ _
     (λ t.
     let h = ltb-true c 6 t in
-    let e : 651 + 2 * c + 1 ≡ 651 + (2 * c + 1) = omega arith in
+    let e : SUMS + 2 * c + 1 ≡ SUMS + (2 * c + 1) = omega arith in
     rw e (sound-summed (2 * c + 1) right (sound-summed (2 * c) left s (omega arith)) (omega arith)))
     (λ t. s)
 
 pub sound-signalled : {m : List ℕ} (v CR : ℕ) → Sound m → v < 32 → Sound (signalled m v CR)
 unfolding signalled cut bitsOf aboveBits
-sound-signalled {m} v CR s h = either Sound (flagOf IRQ CR && eqb (getD m 641 0) 128) _ _
-    (λ t. sound-set 641 v s (lit< tt) (small-cut 8 v (omega arith)) (λ e. is-vector v h))
+sound-signalled {m} v CR s h = either Sound (flagOf IRQ CR && eqb (getD m IRQV 0) 128) _ _
+    (λ t. sound-set IRQV v s (lit< tt) (small-cut 8 v (omega arith)) (λ e. is-vector v h))
     (λ t. s)
 
 -- ---- the turn, and the turns
@@ -209,10 +209,10 @@ sound-signalled {m} v CR s h = either Sound (flagOf IRQ CR && eqb (getD m 641 0)
 pub sound-turn : (memory : List ℕ) (v : ℕ) {m : List ℕ} → Sound m → v < 32 → Sound (turnAt memory v m)
 unfolding turnAt turned
 sound-turn memory v {m} s h =
-    let t = turnOf memory (getD m 648 0) (voiceOf (voiceAt m v)) in
+    let t = turnOf memory (getD m SLOW 0) (voiceOf (voiceAt m v)) in
     sound-signalled v (t .voice .cr)
     (sound-added (channelOf (getD (voiceAt m v) 0 0)) (t .left) (t .right)
-    (sound-put v (wordsOf (t .voice)) s h (words-length (t .voice)) (turn-cut memory (getD m 648 0) (voiceAt m v) (λ j k. sound-voice m s v j h k))))
+    (sound-put v (wordsOf (t .voice)) s h (words-length (t .voice)) (turn-cut memory (getD m SLOW 0) (voiceAt m v) (λ j k. sound-voice m s v j h k))))
     h
 
 pub sound-turns : (memory : List ℕ) (n : ℕ) {m : List ℕ} → Sound m → n ≤ 32 → Sound (turns memory n m)
@@ -222,24 +222,24 @@ sound-turns memory (suc n) {m} s h = sound-turn memory n (sound-turns memory n s
 
 -- ---- the turn as the code has it: the words at a part of the record, and what the turn on them says
 
-pub spoken : (memory m : List ℕ) (v k : ℕ) (after : List ℕ) (s : Said) → k ≡ 20 → Speaks memory (getD m 648 0) (take k (drop (20 * v) m)) after s
+pub spoken : (memory m : List ℕ) (v k : ℕ) (after : List ℕ) (s : Said) → k ≡ 20 → Speaks memory (getD m SLOW 0) (take k (drop (20 * v) m)) after s
     → signalled (added (take (20 * v) m ++ (after ++ drop k (drop (20 * v) m))) (s .channel) (s .left) (s .right)) v (s .cr) ≡ turnAt memory v m
 unfolding turnAt turned voiceAt putVoice
 spoken memory m v k after s e p = rw (p .words, p .channel, p .left, p .right, p .cr, e)
 
 -- the record with the part put back is valid
-pub spoken-sound : (memory m : List ℕ) (v k : ℕ) (after : List ℕ) (s : Said) → k ≡ 20 → Speaks memory (getD m 648 0) (take k (drop (20 * v) m)) after s → Sound m → v < 32
+pub spoken-sound : (memory m : List ℕ) (v k : ℕ) (after : List ℕ) (s : Said) → k ≡ 20 → Speaks memory (getD m SLOW 0) (take k (drop (20 * v) m)) after s → Sound m → v < 32
     → Sound (take (20 * v) m ++ (after ++ drop k (drop (20 * v) m)))
 unfolding voiceAt putVoice
 spoken-sound memory m v k after s e p r h =
-    rw (p .words, e) (sound-put v (wordsOf (turnOf memory (getD m 648 0) (voiceOf (voiceAt m v)) .voice)) r h (words-length (turnOf memory (getD m 648 0) (voiceOf (voiceAt m v)) .voice)) (turn-cut memory (getD m 648 0) (voiceAt m v) (λ j l. sound-voice m r v j h l)))
+    rw (p .words, e) (sound-put v (wordsOf (turnOf memory (getD m SLOW 0) (voiceOf (voiceAt m v)) .voice)) r h (words-length (turnOf memory (getD m SLOW 0) (voiceOf (voiceAt m v)) .voice)) (turn-cut memory (getD m SLOW 0) (voiceAt m v) (λ j l. sound-voice m r v j h l)))
 
 -- ---- a whole frame's turns
 
-pub active-le : (m : List ℕ) → Sound m → getD m 643 0 ≤ 31
+pub active-le : (m : List ℕ) → Sound m → getD m ACTV 0 ≤ 31
 unfolding bitsOf aboveBits
-active-le m s = word-le m s 643 (lit< tt)
+active-le m s = word-le m s ACTV (lit< tt)
 
 pub sound-played : (memory : List ℕ) {m : List ℕ} → Sound m → Sound (played memory m)
 unfolding played
-sound-played memory {m} s = sound-turns memory (getD m 643 0 + 1) s (omega (arith, active-le m s))
+sound-played memory {m} s = sound-turns memory (getD m ACTV 0 + 1) s (omega (arith, active-le m s))

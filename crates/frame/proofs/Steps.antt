@@ -16,12 +16,13 @@ use Rattle.numbers.specs.Numbers.{word}
 use Rattle.numbers.proofs.Tests.{split}
 use Rattle.control.specs.Control.{flagOf, IRQ}
 use Rattle.channel.specs.Channel.{mixed}
+use Rattle.machine.specs.Words.{IRQV, SUMS}
 use Rattle.frame.specs.Frame.{summed, added, signalled}
 
 -- ---- a channel
 
 module _ (m : List ℕ) (c : ℕ) (left right : ℤ) where
-  pub added-in : c < 6 → added m c left right ≡ summed (summed m (651 + 2 * c) left) (651 + 2 * c + 1) right
+  pub added-in : c < 6 → added m c left right ≡ summed (summed m (SUMS + 2 * c) left) (SUMS + 2 * c + 1) right
   unfolding added
   added-in h = rw (lt-ltb c 6 h)
 
@@ -40,13 +41,13 @@ summed-other m i j z h = getD-set-other m i j (mixed (getD m i 0) (word 23 z)) 0
 -- ---- the interrupt step
 
 module _ (m : List ℕ) (v CR : ℕ) where
-  pub signal-enters : flagOf IRQ CR ≡ true → getD m 641 0 ≡ 128 → signalled m v CR ≡ set m 641 v
+  pub signal-enters : flagOf IRQ CR ≡ true → getD m IRQV 0 ≡ 128 → signalled m v CR ≡ set m IRQV v
   unfolding signalled
-  signal-enters f h = rw (f, eq-eqb (getD m 641 0) 128 h)
+  signal-enters f h = rw (f, eq-eqb (getD m IRQV 0) 128 h)
 
-  pub signal-waits : (getD m 641 0 ≡ 128 → ⊥) → signalled m v CR ≡ m
+  pub signal-waits : (getD m IRQV 0 ≡ 128 → ⊥) → signalled m v CR ≡ m
   unfolding signalled
-  signal-waits h = split (signalled m v CR ≡ m) (flagOf IRQ CR) (λ t. rw (t, ne-eqb (getD m 641 0) 128 h)) (λ t. rw t)
+  signal-waits h = split (signalled m v CR ≡ m) (flagOf IRQ CR) (λ t. rw (t, ne-eqb (getD m IRQV 0) 128 h)) (λ t. rw t)
 
   pub signal-none : flagOf IRQ CR ≡ false → signalled m v CR ≡ m
   unfolding signalled

@@ -19,7 +19,7 @@ use Rattle.numbers.proofs.Tests.{either, cases}
 use Rattle.control.specs.Control.{flagOf, channelOf, IRQ}
 use Rattle.channel.specs.Channel.{mixed, putOut}
 use Rattle.channel.proofs.Laws.{mixed-is}
-use Rattle.machine.specs.Words.{IRQV, ACTV, SLOW, SUMS, bitsOf, aboveBits, cut}
+use Rattle.machine.specs.Words.{IRQV, ACTV, SLOW, SUMS, bitsOf, aboveBits, cut, WORDS}
 use Rattle.machine.specs.Voices.{voiceAt, putVoice}
 use Rattle.machine.proofs.Parts.{voice-set-above, voice-same, put-length, put-same, put-other, put-out}
 use Rattle.machine.proofs.Valid.{Sound, sound-set, sound-put, sound-voice}
@@ -49,12 +49,12 @@ module _ (m : List ℕ) (v CR : ℕ) where
   signalled-word i h = either (λ r. getD r i 0 ≡ getD m i 0) (flagOf IRQ CR && eqb (getD m IRQV 0) 128) (set m IRQV v) m
       (λ _. getD-set-other m IRQV i v 0 h) (λ _. refl)
 
-  signalled-voice : (u : ℕ) → length m ≡ 663 → u < 32 → voiceAt (signalled m v CR) u ≡ voiceAt m u
+  signalled-voice : (u : ℕ) → length m ≡ WORDS → u < 32 → voiceAt (signalled m v CR) u ≡ voiceAt m u
   unfolding signalled
   signalled-voice u l h = either (λ r. voiceAt r u ≡ voiceAt m u) (flagOf IRQ CR && eqb (getD m IRQV 0) 128) (set m IRQV v) m
       (λ _. voice-set-above m u IRQV v l h (omega arith)) (λ _. refl)
 
-summed-voice : (m : List ℕ) (i : ℕ) (z : ℤ) (u : ℕ) → length m ≡ 663 → u < 32 → 640 ≤ i → voiceAt (summed m i z) u ≡ voiceAt m u
+summed-voice : (m : List ℕ) (i : ℕ) (z : ℤ) (u : ℕ) → length m ≡ WORDS → u < 32 → 640 ≤ i → voiceAt (summed m i z) u ≡ voiceAt m u
 unfolding summed
 summed-voice m i z u l h k = voice-set-above m u i (mixed (getD m i 0) (word 23 z)) l h k
 
@@ -71,7 +71,7 @@ module _ (m : List ℕ) (channel : ℕ) (left right : ℤ) where
       (λ _. summed-other n (SUMS + 2 * channel + 1) i right (λ e. omega arith) ∙ summed-other m (SUMS + 2 * channel) i left (λ e. omega arith))
       (λ _. refl)
 
-  added-voice : (u : ℕ) → length m ≡ 663 → u < 32 → voiceAt (added m channel left right) u ≡ voiceAt m u
+  added-voice : (u : ℕ) → length m ≡ WORDS → u < 32 → voiceAt (added m channel left right) u ≡ voiceAt m u
   unfolding added
   added-voice u l h =
       let n = summed m (SUMS + 2 * channel) left in
@@ -99,7 +99,7 @@ module _ (m : List ℕ) (channel : ℕ) (left right : ℤ) where
     unfolding portion
     both-added k =
         let n = summed m (SUMS + 2 * channel) left in
-        let l : length n ≡ 663 = summed-length m (SUMS + 2 * channel) left ∙ s .size in
+        let l : length n ≡ WORDS = summed-length m (SUMS + 2 * channel) left ∙ s .size in
         let P : ℕ → Type 0 = λ x. getD (summed n (SUMS + 2 * channel + 1) right) (SUMS + i) 0 ≡ (getD m (SUMS + i) 0 + x) % 8388608 in
         either P (eqb i (2 * channel)) (word 23 left) (cond (eqb i (2 * channel + 1)) (word 23 right) 0)
         (λ t.
@@ -140,7 +140,7 @@ module _ (memory : List ℕ) (v : ℕ) (m : List ℕ) (s : Sound m) (h : v < 32)
   fits : 20 * v + 20 ≤ length m
   fits = omega (arith, s .size)
 
-  put-size : length put ≡ 663
+  put-size : length put ≡ WORDS
   unfolding put
   put-size = put-length m v (wordsAfter memory (getD m SLOW 0) (voiceAt m v)) long fits ∙ s .size
 
@@ -182,7 +182,7 @@ module _ (m : List ℕ) (s : Sound m) where
   low-length : length (take SUMS m) ≡ SUMS
   low-length = length-take-le SUMS m (omega (arith, s .size))
 
-  silenced-length : length (silenced m) ≡ 663
+  silenced-length : length (silenced m) ≡ WORDS
   unfolding silenced
   silenced-length = simp (length-append, low-length, length-drop) (omega (arith, s .size))
 
@@ -239,15 +239,15 @@ module _ (m : List ℕ) (s : Sound m) where
 
 -- ---- the output
 
-sums-length : (m : List ℕ) → length m ≡ 663 → length (take 12 (drop SUMS m)) ≡ 12
+sums-length : (m : List ℕ) → length m ≡ WORDS → length (take 12 (drop SUMS m)) ≡ 12
 sums-length m h = length-take-le 12 (drop SUMS m) (simp length-drop (omega arith))
 
-pub heard-length : (m : List ℕ) → length m ≡ 663 → length (heard m) ≡ 12
+pub heard-length : (m : List ℕ) → length m ≡ WORDS → length (heard m) ≡ 12
 unfolding heard
 heard-length m h = length-map (take 12 (drop SUMS m)) putOut ∙ sums-length m h
 
 -- the same sums are heard the same
-pub heard-same : (m n : List ℕ) → length m ≡ 663 → length n ≡ 663 → ((i : ℕ) → i < 12 → getD m (SUMS + i) 0 ≡ getD n (SUMS + i) 0) → heard m ≡ heard n
+pub heard-same : (m n : List ℕ) → length m ≡ WORDS → length n ≡ WORDS → ((i : ℕ) → i < 12 → getD m (SUMS + i) 0 ≡ getD n (SUMS + i) 0) → heard m ≡ heard n
 unfolding heard
 heard-same m n h k f = ap (map putOut)
     (ext-getD 0 (take 12 (drop SUMS m)) (take 12 (drop SUMS n)) (sums-length m h ∙ sym (sums-length n k))

@@ -8,7 +8,7 @@ ghost use lib.ListN.{length, getD, replicate};
 ghost use Rattle.numbers.specs.Numbers.{Within};
 ghost use Rattle.codes.specs.Codes.{Expands};
 ghost use Rattle.channel.specs.Channel.{putOut};
-ghost use Rattle.machine.specs.Words.{valid};
+ghost use Rattle.machine.specs.Words.{WORDS, SUMS, valid};
 ghost use Rattle.voice.specs.Ranges.{Ranges};
 ghost use Rattle.frame.specs.Voices.{voiceOf, wordsOf};
 ghost use Rattle.frame.specs.Frame.{summed, added, signalled, turnAt, played, heard, closed, frameAnswer, Frames};
@@ -159,8 +159,8 @@ fn save(w: &mut [u32], v: Voice)
 
 // Left and right are added to the sums of a channel; channels 6 and 7 are none.
 fn add(m: &mut [u32], channel: u32, left: i32, right: i32)
-    requires { ⌜ length (now m) ≡ 663 ⌝ }
-    requires { ⌜ ((i : ℕ) → i < 12 → getD (now m) (651 + i) 0 < 8388608) ⌝ }
+    requires { ⌜ length (now m) ≡ WORDS ⌝ }
+    requires { ⌜ ((i : ℕ) → i < 12 → getD (now m) (SUMS + i) 0 < 8388608) ⌝ }
     requires { ⌜ Within 1048576 left ⌝ }
     requires { ⌜ Within 1048576 right ⌝ }
     ensures { λ _. ⌜ now (m .exit) ≡ added (now (m .entry)) channel left right ⌝ }
@@ -187,14 +187,14 @@ fn sum(m: &mut [u32], at: usize, z: i32)
 // The left sum of a channel.
 fn place(channel: u32) -> usize
     requires { ⌜ channel < 6 ⌝ }
-    ensures { λ r. ⌜ r ≡ 651 + 2 * channel ⌝ }
+    ensures { λ r. ⌜ r ≡ SUMS + 2 * channel ⌝ }
 {
     machine::SUMS + 2 * channel as usize
 }
 
 // A waiting voice enters an empty vector.
 fn signal(m: &mut [u32], v: usize, cr: u32)
-    requires { ⌜ length (now m) ≡ 663 ⌝ }
+    requires { ⌜ length (now m) ≡ WORDS ⌝ }
     requires { ⌜ v < 32 ⌝ }
     ensures { λ _. ⌜ now (m .exit) ≡ signalled (now (m .entry)) v cr ⌝ }
 {
@@ -207,13 +207,13 @@ fn signal(m: &mut [u32], v: usize, cr: u32)
 
 // The frame is closed: the sums go out and become 0, and the slow-ramp counter goes on.
 fn close(m: &mut [u32], out: &mut [i32])
-    requires { ⌜ length (now m) ≡ 663 ⌝ }
-    requires { ⌜ ((i : ℕ) → i < 12 → getD (now m) (651 + i) 0 < 8388608) ⌝ }
+    requires { ⌜ length (now m) ≡ WORDS ⌝ }
+    requires { ⌜ ((i : ℕ) → i < 12 → getD (now m) (SUMS + i) 0 < 8388608) ⌝ }
     requires { ⌜ length (now out) ≡ 12 ⌝ }
     ensures { λ _. ⌜ (now (m .exit) ≡ closed (now (m .entry))) × (now (out .exit) ≡ heard (now (m .entry))) ⌝ }
 {
-    put_out(&m[651..663], out);
-    clear(&mut m[651..663]);
+    put_out(&m[machine::SUMS..machine::SUMS_END], out);
+    clear(&mut m[machine::SUMS..machine::SUMS_END]);
     let slow = m[machine::SLOW];
     m[machine::SLOW] = next(slow);
 }

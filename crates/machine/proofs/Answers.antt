@@ -11,31 +11,31 @@ use Rattle.numbers.proofs.Tests.{split}
 use Rattle.answer.specs.Answer.{isDone}
 use Rattle.answer.specs.declared.Answer.{Answer}
 use Rattle.answer.specs.declared.Answer.the-variants.{Done, RecordSize, RecordWord}
-use Rattle.machine.specs.Words.{cutTo, isVector, valid}
+use Rattle.machine.specs.Words.{cutTo, isVector, valid, IRQV, WORDS}
 use Rattle.machine.specs.Calls.{sized, checked, fresh, resetRecord, Resets}
 use Rattle.machine.proofs.Valid.{Sound, sound, is-valid}
 
 module _ (m : List ℕ) where
-  pub wrong-size : (length m ≡ 663 → ⊥) → sized m ≡ RecordSize
+  pub wrong-size : (length m ≡ WORDS → ⊥) → sized m ≡ RecordSize
   unfolding sized
-  wrong-size h = rw (ne-eqb (length m) 663 h)
+  wrong-size h = rw (ne-eqb (length m) WORDS h)
 
-  pub right-size : length m ≡ 663 → sized m ≡ Done
+  pub right-size : length m ≡ WORDS → sized m ≡ Done
   unfolding sized
-  right-size h = rw (eq-eqb (length m) 663 h)
+  right-size h = rw (eq-eqb (length m) WORDS h)
 
-  pub check-size : (length m ≡ 663 → ⊥) → checked m ≡ RecordSize
+  pub check-size : (length m ≡ WORDS → ⊥) → checked m ≡ RecordSize
   unfolding checked
   check-size h = rw (wrong-size h)
 
-  pub check-stray : length m ≡ 663 → cutTo m 663 ≡ false → checked m ≡ RecordWord
+  pub check-stray : length m ≡ WORDS → cutTo m WORDS ≡ false → checked m ≡ RecordWord
   unfolding checked valid
-  check-stray h k = rw (right-size h, eq-eqb (length m) 663 h, k)
+  check-stray h k = rw (right-size h, eq-eqb (length m) WORDS h, k)
 
-  pub check-vector : length m ≡ 663 → cutTo m 663 ≡ true → (b : Bool) → isVector (getD m 641 0) ≡ b → checked m ≡ cond b Done RecordWord
+  pub check-vector : length m ≡ WORDS → cutTo m WORDS ≡ true → (b : Bool) → isVector (getD m IRQV 0) ≡ b → checked m ≡ cond b Done RecordWord
   unfolding checked valid
-  check-vector h k true q = rw (right-size h, eq-eqb (length m) 663 h, k, q)
-  check-vector h k false q = rw (right-size h, eq-eqb (length m) 663 h, k, q)
+  check-vector h k true q = rw (right-size h, eq-eqb (length m) WORDS h, k, q)
+  check-vector h k false q = rw (right-size h, eq-eqb (length m) WORDS h, k, q)
 
   pub check-valid : Sound m → checked m ≡ Done
   unfolding checked
@@ -50,19 +50,19 @@ not-word e = false≢true (ap isDone e)
 
 pub not-refused : (m : List ℕ) → checked m ≡ Done → Sound m
 unfolding checked
-not-refused m e = split (Sound m) (eqb (length m) 663)
+not-refused m e = split (Sound m) (eqb (length m) WORDS)
     (λ t. split (Sound m) (valid m)
     (λ v. sound m v)
-    (λ v. absurd (not-word (sym (rw (right-size m (eqb-true (length m) 663 t), v) refl) ∙ e))))
-    (λ t. absurd (not-size (sym (check-size m (λ h. false≢true (sym t ∙ eq-eqb (length m) 663 h))) ∙ e)))
+    (λ v. absurd (not-word (sym (rw (right-size m (eqb-true (length m) WORDS t), v) refl) ∙ e))))
+    (λ t. absurd (not-size (sym (check-size m (λ h. false≢true (sym t ∙ eq-eqb (length m) WORDS h))) ∙ e)))
 
 -- ---- reset
 
-pub reset-refused : (m : List ℕ) → (length m ≡ 663 → ⊥) → Resets m RecordSize m
+pub reset-refused : (m : List ℕ) → (length m ≡ WORDS → ⊥) → Resets m RecordSize m
 unfolding resetRecord
 reset-refused m h = record { answers = sym (wrong-size m h); leaves = rw (wrong-size m h) }
 
-pub reset-done : (m n : List ℕ) → length m ≡ 663 → n ≡ fresh → Resets m Done n
+pub reset-done : (m n : List ℕ) → length m ≡ WORDS → n ≡ fresh → Resets m Done n
 unfolding resetRecord
 reset-done m n h e = record { answers = sym (right-size m h); leaves = rw (right-size m h) e }
 

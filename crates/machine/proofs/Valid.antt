@@ -50,9 +50,9 @@ module _ (t : ℕ → Bool) (all : ℕ → Bool) (none : all zero ≡ true) (one
 -- ---- validity by its parts
 
 pub record Sound (m : List ℕ) : Type 0 where
-  pub size : length m ≡ 663
-  pub words : (i : ℕ) → i < 663 → cut i (getD m i 0) ≡ getD m i 0
-  pub vector : isVector (getD m 641 0) ≡ true
+  pub size : length m ≡ WORDS
+  pub words : (i : ℕ) → i < WORDS → cut i (getD m i 0) ≡ getD m i 0
+  pub vector : isVector (getD m IRQV 0) ≡ true
 
 kept : List ℕ → ℕ → Bool
 kept m i = eqb (cut i (getD m i 0)) (getD m i 0)
@@ -68,16 +68,16 @@ cut-all m n f = from-each (kept m) (cutTo m) refl (λ j. refl) n (λ i k. eq-eqb
 pub sound : (m : List ℕ) → valid m ≡ true → Sound m
 unfolding valid
 sound m h =
-    let a = both (eqb (length m) 663) (cutTo m 663 && isVector (getD m 641 0)) h in
-    let b = both (cutTo m 663) (isVector (getD m 641 0)) (a .1) in
-    record { size = eqb-true (length m) 663 (a .0); words = cut-each m 663 (b .0); vector = b .1 }
+    let a = both (eqb (length m) WORDS) (cutTo m WORDS && isVector (getD m IRQV 0)) h in
+    let b = both (cutTo m WORDS) (isVector (getD m IRQV 0)) (a .1) in
+    record { size = eqb-true (length m) WORDS (a .0); words = cut-each m WORDS (b .0); vector = b .1 }
 
 pub is-valid : (m : List ℕ) → Sound m → valid m ≡ true
 unfolding valid
-is-valid m s = rw (eq-eqb (length m) 663 (s .size), cut-all m 663 (s .words), s .vector)
+is-valid m s = rw (eq-eqb (length m) WORDS (s .size), cut-all m WORDS (s .words), s .vector)
 
 -- a word of a valid record is at most the bits that it keeps
-pub word-le : (m : List ℕ) → Sound m → (i : ℕ) → i < 663 → getD m i 0 ≤ bitsOf i
+pub word-le : (m : List ℕ) → Sound m → (i : ℕ) → i < WORDS → getD m i 0 ≤ bitsOf i
 unfolding cut
 word-le m s i h = subst (λ (x : ℕ). x ≤ bitsOf i) (s .words i h) (and-le-r (getD m i 0) (bitsOf i))
 
@@ -125,7 +125,7 @@ above-word : (m : List ℕ) (j : ℕ) → j < 23 → getD (take 23 (drop 640 m))
 above-word m j h = rw (getD-take, getD-drop)
 
 -- all voices at once and above, or word by word: one test
-words-found : (m : List ℕ) → gatheredKept m 20 ≡ true → keptBy (above-part m) aboveBits ≡ true → (i : ℕ) → i < 663 → cut i (getD m i 0) ≡ getD m i 0
+words-found : (m : List ℕ) → gatheredKept m 20 ≡ true → keptBy (above-part m) aboveBits ≡ true → (i : ℕ) → i < WORDS → cut i (getD m i 0) ≡ getD m i 0
 unfolding cut gatheredKept all-pass voice-passes above-part aboveBits
 words-found m hv ha i h = cases i 640 (bitAnd (getD m i 0) (bitsOf i) ≡ getD m i 0)
     (λ l.
@@ -145,20 +145,20 @@ words-found m hv ha i h = cases i 640 (bitAnd (getD m i 0) (bitsOf i) ≡ getD m
     let q : bitAnd (getD m (640 + j) 0) (bitsOf (640 + j)) ≡ getD m (640 + j) 0 = rw (← (above-word m j jk), bits-above j) p in
     subst (λ (k : ℕ). bitAnd (getD m k 0) (bitsOf k) ≡ getD m k 0) e q)
 
-voices-found : (m : List ℕ) → ((i : ℕ) → i < 663 → cut i (getD m i 0) ≡ getD m i 0) → gatheredKept m 20 ≡ true
+voices-found : (m : List ℕ) → ((i : ℕ) → i < WORDS → cut i (getD m i 0) ≡ getD m i 0) → gatheredKept m 20 ≡ true
 unfolding cut gatheredKept all-pass voice-passes
 voices-found m f = from-each (λ (j : ℕ). all-pass m j 32) (gatheredKept m) refl (λ u. refl) 20
     (λ j k. from-each (voice-passes m j) (all-pass m j) (none-passes m j) (one-passes m j) 32
     (λ v l. eq-eqb (bitAnd (getD m (20 * v + j) 0) (getD voiceBits j 0)) (getD m (20 * v + j) 0) (rw (← (bits-voice v j l k)) (f (20 * v + j) (omega arith)))))
 
-above-found : (m : List ℕ) → ((i : ℕ) → i < 663 → cut i (getD m i 0) ≡ getD m i 0) → keptBy (above-part m) aboveBits ≡ true
+above-found : (m : List ℕ) → ((i : ℕ) → i < WORDS → cut i (getD m i 0) ≡ getD m i 0) → keptBy (above-part m) aboveBits ≡ true
 unfolding cut above-part aboveBits
 above-found m f = kept-all (above-part m) aboveBits 23 (λ j l. rw (above-word m j l, ← (bits-above j)) (f (640 + j) (omega arith)))
 
-pub words-test : (m : List ℕ) → (gatheredKept m 20 && keptBy (above-part m) aboveBits) ≡ cutTo m 663
-words-test m = same-bool (gatheredKept m 20 && keptBy (above-part m) aboveBits) (cutTo m 663)
-    (λ h. let p = both (gatheredKept m 20) (keptBy (above-part m) aboveBits) h in cut-all m 663 (words-found m (p .0) (p .1)))
-    (λ h. let f = cut-each m 663 h in ap₂ _&&_ (voices-found m f) (above-found m f))
+pub words-test : (m : List ℕ) → (gatheredKept m 20 && keptBy (above-part m) aboveBits) ≡ cutTo m WORDS
+words-test m = same-bool (gatheredKept m 20 && keptBy (above-part m) aboveBits) (cutTo m WORDS)
+    (λ h. let p = both (gatheredKept m 20) (keptBy (above-part m) aboveBits) h in cut-all m WORDS (words-found m (p .0) (p .1)))
+    (λ h. let f = cut-each m WORDS h in ap₂ _&&_ (voices-found m f) (above-found m f))
 
 -- ---- what keeps a record valid
 
@@ -167,20 +167,20 @@ unfolding cut
 cut-again i x = and-again x (bitsOf i)
 
 -- a store of a word that is cut already; of the vector, of one that is a vector
-pub sound-set : {m : List ℕ} (i x : ℕ) → Sound m → i < 663 → cut i x ≡ x → (i ≡ 641 → isVector x ≡ true) → Sound (set m i x)
+pub sound-set : {m : List ℕ} (i x : ℕ) → Sound m → i < WORDS → cut i x ≡ x → (i ≡ IRQV → isVector x ≡ true) → Sound (set m i x)
 sound-set {m} i x s h c q = record {
   size = length-set m i x ∙ s .size;
   words = λ k l. at k l (ℕ-discrete k i);
-  vector = found (ℕ-discrete 641 i);
+  vector = found (ℕ-discrete IRQV i);
 }
   where
-    at : (k : ℕ) → k < 663 → Dec (k ≡ i) → cut k (getD (set m i x) k 0) ≡ getD (set m i x) k 0
+    at : (k : ℕ) → k < WORDS → Dec (k ≡ i) → cut k (getD (set m i x) k 0) ≡ getD (set m i x) k 0
     at k l (yes e) = rw (e, getD-set-same m i x 0 (omega (arith, s .size))) c
     at k l (no e) = rw (getD-set-other m i k x 0 e) (s .words k l)
 
-    found : Dec (641 ≡ i) → isVector (getD (set m i x) 641 0) ≡ true
+    found : Dec (IRQV ≡ i) → isVector (getD (set m i x) IRQV 0) ≡ true
     found (yes e) = subst (λ (k : ℕ). isVector (getD (set m i x) k 0) ≡ true) (sym e) (rw (getD-set-same m i x 0 (omega (arith, s .size))) (q (sym e)))
-    found (no e) = rw (getD-set-other m i 641 x 0 e) (s .vector)
+    found (no e) = rw (getD-set-other m i IRQV x 0 e) (s .vector)
 
 -- a put voice whose words are cut already
 pub sound-put : {m : List ℕ} (v : ℕ) (w : List ℕ) → Sound m → v < 32 → length w ≡ 20 → ((j : ℕ) → j < 20 → bitAnd (getD w j 0) (getD voiceBits j 0) ≡ getD w j 0)
@@ -200,7 +200,7 @@ sound-put {m} v w s h long c =
           rw (put-in m v w long fits (i - 20 * v) jk, bits-voice v (i - 20 * v) h jk) (c (i - 20 * v) jk) in
           subst (λ (k : ℕ). bitAnd (getD (putVoice m v w) k 0) (bitsOf k) ≡ getD (putVoice m v w) k 0) e q)
           (λ b. rw (put-out m v w long fits i (λ d f. omega arith)) (s .words i l)));
-      vector = rw (put-out m v w long fits 641 (λ a b. omega arith)) (s .vector);
+      vector = rw (put-out m v w long fits IRQV (λ a b. omega arith)) (s .vector);
     }
 
 -- a voice of a valid record has words that are cut already

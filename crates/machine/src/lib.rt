@@ -3,7 +3,7 @@ ghost use mathlib.Core.Path.{_≡_};
 ghost use Prim.Native.Nat.{_<_};
 ghost use lib.Dec.{eqb};
 ghost use lib.ListN.{length};
-ghost use Rattle.machine.specs.Words.{bitsOf};
+ghost use Rattle.machine.specs.Words.{bitsOf, WORDS as Words·WORDS};
 ghost use Rattle.machine.specs.Kept.{keptBy, gathered};
 ghost use Rattle.machine.specs.Calls.{checked, Resets, fresh};
 ghost use Rattle.machine.specs.Calls.{resetWord as Calls·resetWord};
@@ -35,6 +35,9 @@ pub const WRITE: usize = 649;
 pub const READ: usize = 650;
 
 pub const SUMS: usize = 651;
+
+// The word after the last sum.
+pub const SUMS_END: usize = 663;
 
 // The bits kept by a voice's words, and by the words above the voices.
 const VOICE_BITS: [u32; 20] = [
@@ -88,7 +91,7 @@ const ABOVE_BITS: [u32; 23] = [
 
 // The bits that word i keeps.
 pub fn bits_of(i: usize) -> u32
-    requires { ⌜ i < 663 ⌝ }
+    requires { ⌜ i < Words·WORDS ⌝ }
     ensures { λ r. ⌜ r ≡ bitsOf i ⌝ }
 {
     if i < PAGE {
@@ -115,7 +118,7 @@ pub fn check(m: &[u32]) -> Answer
         stray = stray | (all ^ (all & voice[j]));
     }
     let above = ABOVE_BITS;
-    let rest = stray_bits(&m[640..663], &above);
+    let rest = stray_bits(&m[PAGE..WORDS], &above);
     if stray | rest != 0 {
         return Answer::RecordWord;
     }
@@ -131,7 +134,7 @@ pub fn check(m: &[u32]) -> Answer
 
 // All bits that word j has in any voice. Its bits are kept alike in all of them, so they are held against the mask once.
 fn gather(m: &[u32], j: usize) -> u32
-    requires { ⌜ length (now m) ≡ 663 ⌝ }
+    requires { ⌜ length (now m) ≡ Words·WORDS ⌝ }
     requires { ⌜ j < 20 ⌝ }
     ensures { λ r. ⌜ r ≡ gathered (now (m .entry)) j 32 ⌝ }
 {
@@ -167,10 +170,10 @@ pub fn reset(m: &mut [u32]) -> Answer
 }
 
 fn fill(m: &mut [u32])
-    requires { ⌜ length (now m) ≡ 663 ⌝ }
+    requires { ⌜ length (now m) ≡ Words·WORDS ⌝ }
     ensures { λ _. ⌜ now (m .exit) ≡ fresh ⌝ }
 {
-    for i in 0..663 {
+    for i in 0..WORDS {
         m[i] = reset_word(i);
     }
 }

@@ -17,7 +17,7 @@ use Rattle.answer.specs.Answer.{isDone}
 use Rattle.answer.specs.declared.Answer.the-variants.{Pot as PotRefused}
 use Rattle.control.specs.Control.{IRQ, bitOf, withBit}
 use Rattle.control.proofs.Bits.{read-other}
-use Rattle.machine.specs.Words.{PAGE, IRQV, PAR, WRITE, READ, wordOf, cut, valid}
+use Rattle.machine.specs.Words.{PAGE, IRQV, PAR, WRITE, READ, wordOf, cut, valid, WORDS}
 use Rattle.machine.specs.Voices.{voiceAt}
 use Rattle.machine.proofs.Parts.{voice-set, voice-set-out}
 use Rattle.machine.proofs.Valid.{Sound, sound, is-valid}
@@ -100,11 +100,11 @@ pub read-keeps : (m : List ℕ) (a i : ℕ) → i ≢ READ → i ≢ PAR → i �
 read-keeps m a i l p q h = after-read (λ (n : List ℕ). getD n i 0 ≡ getD m i 0) m a refl
     (λ _ register.
     let x = readAs m register in
-    let same : getD (set m READ x) IRQV 0 ≡ getD m IRQV 0 = getD-set-other m READ IRQV x 0 (λ (z : 641 ≡ 650). omega arith) in
+    let same : getD (set m READ x) IRQV 0 ≡ getD m IRQV 0 = getD-set-other m READ IRQV x 0 (λ (z : IRQV ≡ 650). omega arith) in
     touched-keeps (set m READ x) i q register p (subst (λ (v : ℕ). i ≢ wordOf v 0) (sym same) h) ∙ getD-set-other m READ i x 0 l)
 
-module _ (m : List ℕ) (long : length m ≡ 663) (v n : ℕ) (hv : v < 32) (other : n ≢ IRQ) where
-  cr-bit : (j : ℕ) → j < 663 → Dec (wordOf v 0 ≡ j) → bitOf n (getD (set m j (withBit IRQ 0 (getD m j 0))) (wordOf v 0) 0) ≡ bitOf n (getD m (wordOf v 0) 0)
+module _ (m : List ℕ) (long : length m ≡ WORDS) (v n : ℕ) (hv : v < 32) (other : n ≢ IRQ) where
+  cr-bit : (j : ℕ) → j < WORDS → Dec (wordOf v 0 ≡ j) → bitOf n (getD (set m j (withBit IRQ 0 (getD m j 0))) (wordOf v 0) 0) ≡ bitOf n (getD m (wordOf v 0) 0)
   cr-bit j h (yes e) = rw (e, getD-set-same m j (withBit IRQ 0 (getD m j 0)) 0 (omega arith)) (read-other n IRQ 0 (getD m j 0) (omega arith) other)
   cr-bit j h (no e) = rw (getD-set-other m j (wordOf v 0) (withBit IRQ 0 (getD m j 0)) 0 e)
 

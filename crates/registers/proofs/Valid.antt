@@ -13,7 +13,7 @@ use borrow.Author.Tests.{ltb-true}
 use Rattle.numbers.proofs.Tests.{either, all-at}
 use Rattle.control.specs.Control.{withBit, IRQ}
 use Rattle.control.proofs.Bits.{put-small}
-use Rattle.machine.specs.Words.{PAGE, IRQV, PAR, WRITE, READ, wordOf, voiceBits, aboveBits, bitsOf, cut, isVector}
+use Rattle.machine.specs.Words.{PAGE, IRQV, PAR, WRITE, READ, wordOf, voiceBits, aboveBits, bitsOf, cut, isVector, WORDS}
 use Rattle.machine.proofs.Valid.{Sound, word-le, bits-voice, cut-again, sound-set}
 use Rattle.registers.specs.declared.Register.{Register}
 use Rattle.registers.specs.declared.Register.the-variants.{Word, Sum, Pot, Vector, Nothing}
@@ -28,11 +28,11 @@ cut-low : (i n x : ℕ) → bitsOf i ≡ 2 ^ n - 1 → x < 2 ^ n → cut i x ≡
 unfolding cut
 cut-low i n x e h = rw e (and-mask x n ∙ mod-eq-of-lt h)
 
-bits-lt : (i : ℕ) → i < 663 → bitsOf i < 2 ^ 32
+bits-lt : (i : ℕ) → i < WORDS → bitsOf i < 2 ^ 32
 unfolding bitsOf voiceBits aboveBits
-bits-lt i h = ltb→lt (bitsOf i) (2 ^ 32) (all-at (λ j. ltb (bitsOf j) (2 ^ 32)) 663 tt i h)
+bits-lt i h = ltb→lt (bitsOf i) (2 ^ 32) (all-at (λ j. ltb (bitsOf j) (2 ^ 32)) WORDS tt i h)
 
-pub word-lt : (m : List ℕ) → Sound m → (i : ℕ) → i < 663 → getD m i 0 < 2 ^ 32
+pub word-lt : (m : List ℕ) → Sound m → (i : ℕ) → i < WORDS → getD m i 0 < 2 ^ 32
 word-lt m s i h = omega (arith, word-le m s i h, bits-lt i h)
 
 -- CR of a voice is a word of 16 bits
@@ -46,7 +46,7 @@ cr-lt m s v h = omega (arith, word-le m s (wordOf v 0) (omega arith), cr-bits v 
 -- ---- the latches, which may hold any 32 bits, and the pot result
 
 -- a store of such a number, in a word that is not the vector
-low-sound : {m : List ℕ} (i n x : ℕ) → Sound m → i < 663 → i ≢ 641 → bitsOf i ≡ 2 ^ n - 1 → x < 2 ^ n → Sound (set m i x)
+low-sound : {m : List ℕ} (i n x : ℕ) → Sound m → i < WORDS → i ≢ IRQV → bitsOf i ≡ 2 ^ n - 1 → x < 2 ^ n → Sound (set m i x)
 low-sound i n x s h v e l = sound-set i x s h (cut-low i n x e l) (λ z. absurd (v z))
 
 pub write-latch : {m : List ℕ} (x : ℕ) → Sound m → x < 2 ^ 32 → Sound (set m WRITE x)
@@ -71,7 +71,7 @@ byte-lt (suc (suc zero)) b x h d e = omega arith
 byte-lt (suc (suc (suc zero))) b x h d e = omega arith
 byte-lt (suc (suc (suc (suc k)))) b x h d e = absurd (omega arith)
 
-store-sound : (m : List ℕ) (i x : ℕ) → Sound m → (i < 663) × (i ≡ 641 → ⊥) → Sound (set m i (cut i x))
+store-sound : (m : List ℕ) (i x : ℕ) → Sound m → (i < WORDS) × (i ≡ IRQV → ⊥) → Sound (set m i (cut i x))
 store-sound m i x s h = sound-set i (cut i x) s (h .0) (cut-again i x) (λ e. absurd (h .1 e))
 
 stored-sound : (m : List ℕ) (register : Register) (x : ℕ) → Sound m → Inside register → Sound (stored m register x)

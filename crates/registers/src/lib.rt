@@ -5,7 +5,7 @@ ghost use mathlib.Core.Path.{_≡_};
 ghost use mathlib.Core.Bool.{true};
 ghost use Prim.Native.Nat.{_<_};
 ghost use lib.ListN.{length, getD, set};
-ghost use Rattle.machine.specs.Words.{valid, READ};
+ghost use Rattle.machine.specs.Words.{WORDS, READ, valid};
 ghost use Rattle.registers.specs.Registers.{registerOf, byteOf, withByte, stored, written, readAs, touched, opened};
 ghost use Rattle.registers.specs.Registers.{acknowledged};
 ghost use Rattle.registers.specs.Inside.{Inside};
@@ -88,7 +88,7 @@ fn refusal(m: &[u32], address: u32) -> Answer
 
 // Byte k of register r is written.
 fn write_byte(m: &mut [u32], r: u32, k: u32, b: u8)
-    requires { ⌜ length (now m) ≡ 663 ⌝ }
+    requires { ⌜ length (now m) ≡ WORDS ⌝ }
     requires { ⌜ (r < 16) × (k < 4) ⌝ }
     ensures { λ _. ⌜ now (m .exit) ≡ written (now (m .entry)) r k b ⌝ }
 {
@@ -149,7 +149,7 @@ fn decode(page: u32, r: u32) -> Register
 
 // x, cut to the bits kept, in a register that can be written. The others take nothing: their writes end in the latch.
 fn store(m: &mut [u32], register: Register, x: u32)
-    requires { ⌜ (length (now m) ≡ 663) × Inside register ⌝ }
+    requires { ⌜ (length (now m) ≡ WORDS) × Inside register ⌝ }
     ensures { λ _. ⌜ now (m .exit) ≡ stored (now (m .entry)) register x ⌝ }
 {
     match register {

@@ -15,7 +15,7 @@ use lib.Seq.{getD-set-other}
 use borrow.Author.Tests.{ne-eqb, lt-ltb}
 use Rattle.control.specs.Control.{bitOf, withBit, IRQ}
 use Rattle.control.proofs.Agree.{put-apart}
-use Rattle.machine.specs.Words.{PAGE, IRQV, ACTV, SLOW, SUMS, voiceBits, aboveBits, bitsOf, cut, cutTo, isVector, valid}
+use Rattle.machine.specs.Words.{PAGE, IRQV, ACTV, SLOW, SUMS, voiceBits, aboveBits, bitsOf, cut, cutTo, isVector, valid, WORDS}
 use Rattle.machine.specs.Voices.{voiceAt, putVoice}
 use Rattle.machine.specs.Calls.{resetWord, wordsFrom, fresh}
 use Rattle.machine.proofs.Parts.{voice-same, voice-set-above, put-length, put-same, put-other, put-out}
@@ -91,7 +91,7 @@ module _ (v CR page vector : ℕ) (h : v < 32) where
   unfolding note
   note-long = refl
 
-  size : length (putVoice fresh v (note CR)) ≡ 663
+  size : length (putVoice fresh v (note CR)) ≡ WORDS
   size = put-length fresh v (note CR) note-long note-fits ∙ fresh-length
 
   -- the words above are at none of the voices

@@ -17,7 +17,7 @@ use borrow.Author.Tests.{eqb-true, eq-eqb, ne-eqb, le-ltb}
 use Rattle.numbers.proofs.Tests.{either, split, cases}
 use Rattle.answer.specs.Answer.{isDone}
 use Rattle.answer.specs.declared.Answer.the-variants.{Address}
-use Rattle.machine.specs.Words.{PAGE, IRQV, PAR, ACTV, SLOW, WRITE, READ, SUMS, wordOf, cut, isVector}
+use Rattle.machine.specs.Words.{PAGE, IRQV, PAR, ACTV, SLOW, WRITE, READ, SUMS, wordOf, cut, isVector, WORDS}
 use Rattle.machine.specs.Voices.{voiceAt}
 use Rattle.machine.proofs.Parts.{voice-word, voice-length, voice-same, voice-set, voice-set-out}
 use Rattle.machine.proofs.Valid.{Sound, sound, is-valid, bits-voice, cut-again, sound-set}
@@ -145,7 +145,7 @@ record Quiet (m m′ : List ℕ) : Type 0 where
   latch : getD m′ WRITE 0 ≡ getD m WRITE 0
 
 -- the control register that the vector names is none of the words above
-vector-below : {m : List ℕ} (i : ℕ) → Sound m → PAGE ≤ i → i < 663 → i ≢ wordOf (getD m IRQV 0) 0
+vector-below : {m : List ℕ} (i : ℕ) → Sound m → PAGE ≤ i → i < WORDS → i ≢ wordOf (getD m IRQV 0) 0
 unfolding isVector
 vector-below {m} i s h k e = cases (getD m IRQV 0) 32 ⊥
     (λ l. omega arith)
@@ -172,7 +172,7 @@ read-quiet {m} a s = record {
   latch = above WRITE (λ e. omega arith) (λ e. omega arith) (λ e. omega arith) (lit≤ tt) (lit< tt);
 }
   where
-    above : (i : ℕ) → i ≢ READ → i ≢ PAR → i ≢ IRQV → PAGE ≤ i → i < 663 → getD (readRecord m a) i 0 ≡ getD m i 0
+    above : (i : ℕ) → i ≢ READ → i ≢ PAR → i ≢ IRQV → PAGE ≤ i → i < WORDS → getD (readRecord m a) i 0 ≡ getD m i 0
     above i l p q h k = read-keeps m a i l p q (vector-below i s h k)
 
 pot-keeps : (m : List ℕ) (p : ℕ) → AllBut PAR m (potRecord m p)

@@ -8,14 +8,15 @@ use lib.IntN.{ℤ}
 use lib.ListN.{length, getD}
 use mir.Facts.{toZ-ofZ}
 use Rattle.numbers.proofs.Local.{arg, within}
+use Rattle.machine.specs.Words.{SUMS}
 use Rattle.frame.specs.Frame.{summed}
 use Rattle.frame.proofs.Steps.{added-in, added-none, summed-other}
 use Rattle.frame.proofs.add.Statement.{statement}
 use Rattle.frame.proofs.add.Tie as tie
 
 -- the right sum is the one after the left, which the left's new value leaves
-next-sum : (m : List ℕ) (c : ℕ) (z : ℤ) → getD (summed m (651 + 2 * c) z) (651 + 2 * c + 1) 0 ≡ getD m (651 + (2 * c + 1)) 0
-next-sum m c z = summed-other m (651 + 2 * c) (651 + 2 * c + 1) z (λ e. omega arith) ∙ ap (λ (i : ℕ). getD m i 0) (omega arith)
+next-sum : (m : List ℕ) (c : ℕ) (z : ℤ) → getD (summed m (SUMS + 2 * c) z) (SUMS + 2 * c + 1) 0 ≡ getD m (SUMS + (2 * c + 1)) 0
+next-sum m c z = summed-other m (SUMS + 2 * c) (SUMS + 2 * c + 1) z (λ e. omega arith) ∙ ap (λ (i : ℕ). getD m i 0) (omega arith)
 
 sum-requires : tie.Need-sum-requires
 sum-requires c κs =

@@ -6,15 +6,16 @@ use native.Mathlib.Omega.{arith}
 use borrow.Author.Needs.{needs}
 use lib.ListN.{length, getD, take, drop, length-take, length-drop}
 use lib.Seq.{getD-take, getD-drop}
+use Rattle.machine.specs.Words.{SUMS, WORDS}
 use Rattle.frame.specs.Frame.{closed, silenced, heard}
 use Rattle.frame.proofs.close.Statement.{statement}
 use Rattle.frame.proofs.close.Tie as tie
 
-twelve : (m : List ℕ) → length m ≡ 663 → length (take 12 (drop 651 m)) ≡ 12
+twelve : (m : List ℕ) → length m ≡ WORDS → length (take 12 (drop SUMS m)) ≡ 12
 twelve m h = simp (length-take, length-drop) (omega arith)
 
-small : (m : List ℕ) → length m ≡ 663 → ((i : ℕ) → i < 12 → getD m (651 + i) 0 < 8388608) → (i : ℕ) → i < length (take 12 (drop 651 m)) → getD (take 12 (drop 651 m)) i 0 < 8388608
-small m h f i k = let l : i < 12 = omega (arith, twelve m h) in rw (getD-take 12 (drop 651 m) i 0 l, getD-drop 651 m i 0) (f i l)
+small : (m : List ℕ) → length m ≡ WORDS → ((i : ℕ) → i < 12 → getD m (SUMS + i) 0 < 8388608) → (i : ℕ) → i < length (take 12 (drop SUMS m)) → getD (take 12 (drop SUMS m)) i 0 < 8388608
+small m h f i k = let l : i < 12 = omega (arith, twelve m h) in rw (getD-take 12 (drop SUMS m) i 0 l, getD-drop SUMS m i 0) (f i l)
 
 put-out-requires : tie.Need-put-out-requires
 put-out-requires c κs =

@@ -10,7 +10,7 @@ use borrow.Author.Needs.{needs}
 use denote.Ref.{now}
 use lib.ListN.{length, getD}
 use Rattle.codes.specs.Codes.{Expands}
-use Rattle.machine.specs.Words.{valid}
+use Rattle.machine.specs.Words.{valid, ACTV}
 use Rattle.machine.proofs.Valid.{Sound, sound, is-valid}
 use Rattle.frame.specs.Frame.{turnAt, turns, played}
 use Rattle.frame.proofs.Keeps.{active-le, sound-turns}
@@ -19,7 +19,7 @@ use Rattle.frame.proofs.play.Tie as tie
 
 abbrev Inv-loop : tie.InvT-loop
 Inv-loop m₀ memory table last n v₀ m v =
-    Sound m₀ × (Expands table × ((n ≡ getD m₀ 643 0 + 1) × ((n ≤ 32) × ((v ≤ n) × (m ≡ turns memory v m₀)))))
+    Sound m₀ × (Expands table × ((n ≡ getD m₀ ACTV 0 + 1) × ((n ≤ 32) × ((v ≤ n) × (m ≡ turns memory v m₀)))))
 
 abbrev μ-loop : tie.MeasureT-loop
 μ-loop m₀ memory table last n v₀ m v = n - v
@@ -72,7 +72,7 @@ returns c =
     let l = c .before .loop in
     let s = c .before .before .before .before .before .before .before in
     let i = l .inv in
-    let e : l .v ≡ getD (s .args .m .now) 643 0 + 1 = omega (arith, i .1 .1 .0, i .1 .1 .1 .1 .0, c .loop-test .left) in
+    let e : l .v ≡ getD (s .args .m .now) ACTV 0 + 1 = omega (arith, i .1 .1 .0, i .1 .1 .1 .1 .0, c .loop-test .left) in
     i .1 .1 .1 .1 .1 ∙ ap (λ (k : ℕ). turns (now (s .args .memory)) k (s .args .m .now)) e
 
 pub play-spec : {M : Type 1} → statement M

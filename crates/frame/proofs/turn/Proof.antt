@@ -14,6 +14,7 @@ use Rattle.machine.proofs.Parts.{voice-length}
 use Rattle.machine.proofs.Valid.{Sound, sound, sound-voice}
 use Rattle.voice.specs.Ranges.{Ranges}
 use borrow.Rule.Slice.PartMut.{putMid}
+use Rattle.machine.specs.Words.{SLOW}
 use Rattle.frame.specs.declared.Said.{Said}
 use Rattle.frame.specs.Speaks.{Speaks}
 use Rattle.frame.proofs.Keeps.{ranges-of, sum-small, spoken, spoken-sound}
@@ -38,7 +39,7 @@ turn-of-requires c κs =
 
 -- the record with the voice's part put back
 module _ (s : tie.Start) (after : List ℕ) (said : Said)
-    (p : Speaks (now (s .args .memory)) (getD (s .args .m .now) 648 0) (take (20 * s .args .v + 20 - 20 * s .args .v) (drop (20 * s .args .v) (s .args .m .now))) after said) where
+    (p : Speaks (now (s .args .memory)) (getD (s .args .m .now) SLOW 0) (take (20 * s .args .v + 20 - 20 * s .args .v) (drop (20 * s .args .v) (s .args .m .now))) after said) where
   put-back : Sound (putMid (20 * s .args .v) (20 * s .args .v + 20 - 20 * s .args .v) (s .args .m .now) after)
   put-back = spoken-sound (now (s .args .memory)) (s .args .m .now) (s .args .v) (20 * s .args .v + 20 - 20 * s .args .v) after said (twenty (s .args .v)) p (whole s) (s .pre .1 .0)
 

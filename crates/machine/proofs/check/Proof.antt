@@ -9,7 +9,7 @@ use lib.Dec.{eqb}
 use lib.ListN.{length, getD, length-take, length-drop}
 use borrow.Author.Needs.{needs}
 use borrow.Author.Tests.{eq-eqb, ne-eqb, lt-ltb, le-ltb}
-use Rattle.machine.specs.Words.{voiceBits, aboveBits, cutTo, isVector}
+use Rattle.machine.specs.Words.{voiceBits, aboveBits, cutTo, isVector, WORDS}
 use Rattle.machine.specs.Kept.{keptBy, gatheredKept}
 use Rattle.machine.proofs.Kept.{one-more-gathered, or-test}
 use Rattle.machine.proofs.Valid.{above-part, words-test}
@@ -18,7 +18,7 @@ use Rattle.machine.proofs.check.Statement.{statement}
 use Rattle.machine.proofs.check.Tie as tie
 
 abbrev Inv-loop : tie.InvT-loop
-Inv-loop m voice stray₀ j₀ stray j = (length m ≡ 663) × ((j ≤ 20) × (eqb stray 0 ≡ gatheredKept m j))
+Inv-loop m voice stray₀ j₀ stray j = (length m ≡ WORDS) × ((j ≤ 20) × (eqb stray 0 ≡ gatheredKept m j))
 
 abbrev μ-loop : tie.MeasureT-loop
 μ-loop m voice stray₀ j₀ stray j = 20 - j
@@ -44,7 +44,7 @@ loop-again c =
 
 -- both accumulators speak of the whole record
 whole : (c : tie.After-stray-bits Inv-loop μ-loop)
-    → eqb (bitOr (c .before .before .before .before .loop .stray) (c .stray-bits .result)) 0 ≡ cutTo (c .before .before .before .before .before .before .before .args .m .now) 663
+    → eqb (bitOr (c .before .before .before .before .loop .stray) (c .stray-bits .result)) 0 ≡ cutTo (c .before .before .before .before .before .before .before .args .m .now) WORDS
 unfolding above-part aboveBits
 whole c =
     let h = c .before .before .before .before .loop in

@@ -7,16 +7,17 @@ use mathlib.Core.List.{List}
 use borrow.Author.Needs.{needs}
 use lib.ListN.{length, getD, set, length-set}
 use lib.Seq.{getD-set-same, getD-set-other}
+use Rattle.machine.specs.Words.{WORDS}
 use Rattle.machine.specs.Calls.{resetWord}
 use Rattle.machine.proofs.Fresh.{is-fresh}
 use Rattle.machine.proofs.fill.Statement.{statement}
 use Rattle.machine.proofs.fill.Tie as tie
 
 abbrev Inv-loop : tie.InvT-loop
-Inv-loop m₀ i₀ m i = (length m ≡ 663) × ((length m₀ ≡ 663) × ((i ≤ 663) × ((k : ℕ) → k < i → getD m k 0 ≡ resetWord k)))
+Inv-loop m₀ i₀ m i = (length m ≡ WORDS) × ((length m₀ ≡ WORDS) × ((i ≤ WORDS) × ((k : ℕ) → k < i → getD m k 0 ≡ resetWord k)))
 
 abbrev μ-loop : tie.MeasureT-loop
-μ-loop m₀ i₀ m i = 663 - i
+μ-loop m₀ i₀ m i = WORDS - i
 
 -- one word more
 next : (m : List ℕ) (i x : ℕ) → i < length m → x ≡ resetWord i → ((k : ℕ) → k < i → getD m k 0 ≡ resetWord k) → (k : ℕ) → k < i + 1 → getD (set m i x) k 0 ≡ resetWord k

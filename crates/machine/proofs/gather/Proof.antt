@@ -6,12 +6,13 @@ use native.Mathlib.Omega.{arith}
 use lib.Bits.{bitOr}
 use lib.ListN.{length, getD}
 use borrow.Author.Needs.{needs}
+use Rattle.machine.specs.Words.{WORDS}
 use Rattle.machine.specs.Kept.{gathered}
 use Rattle.machine.proofs.gather.Statement.{statement}
 use Rattle.machine.proofs.gather.Tie as tie
 
 abbrev Inv-loop : tie.InvT-loop
-Inv-loop m j all₀ v₀ all v = (v ≤ 32) × ((length m ≡ 663) × ((j < 20) × (all ≡ gathered m j v)))
+Inv-loop m j all₀ v₀ all v = (v ≤ 32) × ((length m ≡ WORDS) × ((j < 20) × (all ≡ gathered m j v)))
 
 abbrev μ-loop : tie.MeasureT-loop
 μ-loop m j all₀ v₀ all v = 32 - v

@@ -2,6 +2,7 @@
 use mathlib.Core.Path.{_≡_, refl, sym, ap, _∙_}
 use Prim.Native.Nat.{ℕ, _%_, _<_, _≤_}
 use borrow.Author.Tests.{eq-eqb, ne-eqb, lt-ltb, le-ltb}
+use Rattle.machine.specs.Words.{ACTV, IRQV}
 use Rattle.machine.specs.Calls.{resetWord}
 use Rattle.machine.proofs.reset_word.Statement.{statement}
 use Rattle.machine.proofs.reset_word.Tie as tie
@@ -15,15 +16,15 @@ module _ (i : ℕ) where
   unfolding resetWord
   other h k = rw (lt-ltb i 640 h, ne-eqb (i % 20) 0 k)
 
-  above : 640 ≤ i → (i ≡ 641 → ⊥) → (i ≡ 642 → ⊥) → (i ≡ 643 → ⊥) → (i ≡ 644 → ⊥) → 0 ≡ resetWord i
+  above : 640 ≤ i → (i ≡ IRQV → ⊥) → (i ≡ 642 → ⊥) → (i ≡ ACTV → ⊥) → (i ≡ 644 → ⊥) → 0 ≡ resetWord i
   unfolding resetWord
-  above h a b c d = rw (le-ltb i 640 h, ne-eqb i 641 a, ne-eqb i 642 b, ne-eqb i 643 c, ne-eqb i 644 d)
+  above h a b c d = rw (le-ltb i 640 h, ne-eqb i IRQV a, ne-eqb i 642 b, ne-eqb i ACTV c, ne-eqb i 644 d)
 
 -- a word that is named
 named : (i k x : ℕ) → i ≡ k → x ≡ resetWord k → x ≡ resetWord i
 named i k x e h = h ∙ ap resetWord (sym e)
 
-vector : 128 ≡ resetWord 641
+vector : 128 ≡ resetWord IRQV
 unfolding resetWord
 vector = refl
 
@@ -31,7 +32,7 @@ pot : 1023 ≡ resetWord 642
 unfolding resetWord
 pot = refl
 
-active : 31 ≡ resetWord 643
+active : 31 ≡ resetWord ACTV
 unfolding resetWord
 active = refl
 
@@ -45,8 +46,8 @@ reset-word-spec =
     (tie.spec
     (λ c. control (c .before .before .args .i) (c .before .if1 .taken) (c .if2 .taken))
     (λ c. other (c .before .before .args .i) (c .before .if1 .taken) (c .if2 .left))
-    (λ c. named _ 641 _ (c .match .keys1) vector)
+    (λ c. named _ IRQV _ (c .match .keys1) vector)
     (λ c. named _ 642 _ (c .match .keys2) pot)
-    (λ c. named _ 643 _ (c .match .keys3) active)
+    (λ c. named _ ACTV _ (c .match .keys3) active)
     (λ c. named _ 644 _ (c .match .keys4) mode)
     (λ c. let r = c .match .rest in above (c .before .before .args .i) (c .before .if1 .left) (r .0 .0 .0 .1) (r .0 .0 .1) (r .0 .1) (r .1)))

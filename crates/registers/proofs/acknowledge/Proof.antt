@@ -7,6 +7,7 @@ use lib.ListN.{getD, length-set}
 use borrow.Author.Needs.{needs}
 use borrow.Author.Tests.{lt-ltb, le-ltb}
 use Rattle.machine.proofs.Valid.{Sound, sound}
+use Rattle.machine.specs.Words.{IRQV}
 use Rattle.registers.specs.Registers.{acknowledged}
 use Rattle.registers.proofs.Valid.{cr-lt}
 use Rattle.registers.proofs.acknowledge.Statement.{statement}
@@ -25,7 +26,7 @@ with-bit-requires : tie.Need-with-bit-requires
 with-bit-requires c κs =
     let s = c .before .before .before .before in
     let m = s .args .m .now in
-    let h : getD m (20 * getD m 641 0) 0 < 65536 = rw add-zero at (cr-lt m (fine s) (getD m 641 0) (c .before .if1 .taken)) in
+    let h : getD m (20 * getD m IRQV 0) 0 < 65536 = rw add-zero at (cr-lt m (fine s) (getD m IRQV 0) (c .before .if1 .taken)) in
     (omega arith, (omega arith, h))
 
 slice-write-m : tie.Need-slice-write-m

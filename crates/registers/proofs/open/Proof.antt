@@ -6,6 +6,7 @@ use native.Mathlib.Omega.{arith}
 use lib.ListN.{length-set}
 use borrow.Author.Needs.{needs}
 use Rattle.machine.proofs.Valid.{Sound, sound, is-valid}
+use Rattle.machine.specs.Words.{WORDS}
 use Rattle.registers.specs.declared.Register.the-variants.{Vector}
 use Rattle.registers.specs.Registers.{readAs, touched}
 use Rattle.registers.specs.Inside.{Inside}
@@ -16,7 +17,7 @@ use Rattle.registers.proofs.open.Tie as tie
 fine : (c : tie.Start) → Sound (c .args .m .now)
 fine c = sound (c .args .m .now) (c .pre .0)
 
-within : (c : tie.After-register) → c .register .given .0 .0 < 663
+within : (c : tie.After-register) → c .register .given .0 .0 < WORDS
 within c = subst Inside (c .register .given .1) (c .before .before .before .pre .1) .0
 
 mul-m : tie.Need-mul-m
