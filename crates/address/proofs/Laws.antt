@@ -1,11 +1,18 @@
--- The address step by its tests: the four events, and the ways of a step forward and in reverse. Assumes nothing.
+-- The address step by its tests: the four events, and the ways of a step forward and in reverse; then the step that stays within the loop
+-- points, in natural numbers. Assumes nothing.
 use mathlib.Core.Path.{_≡_, refl, sym, ap, _∙_}
 use mathlib.Core.Bool.{true, false, not, _||_}
-use Prim.Native.Nat.{ℕ}
+use Prim.Native.Nat.{ℕ, _+_, _-_, _<_, _≤_}
+use native.Mathlib.Nat.{mod-eq-of-lt, add-zero}
+use native.Mathlib.Omega.{arith}
+use borrow.Author.Tests.{le-leb, le-ltb}
+use lib.Dec.{ltb}
 use lib.IntN.{ℤ, pos, _+ℤ_, _-ℤ_}
 use lib.Signed.{leZ, ltZ}
-use Rattle.numbers.specs.Numbers.{word}
+use Rattle.numbers.specs.Numbers.{floorMod, word}
 use Rattle.numbers.proofs.Tests.{split}
+use Rattle.numbers.proofs.Difference.{is-pos, pos-⊖, ⊖-lt}
+use Rattle.numbers.proofs.Words.{pos-sub}
 use Rattle.control.specs.Control.{flagOf, withBit, STP0, LEI, LPE, BLE, IRQE, DIR, IRQ}
 use Rattle.address.specs.declared.Place.{Place}
 use Rattle.address.specs.Address.{raised, event, forward, reverse, stepped}
@@ -78,3 +85,26 @@ module _ (CR FC START END ACCUM : ℕ) where
 -- two places are one where both parts are
 pub same-place : {a b c d : ℕ} → a ≡ b → c ≡ d → _≡_ {A = Place} (record { accum = a; cr = c }) (record { accum = b; cr = d })
 same-place p q = λ i. record { accum = p i; cr = q i }
+
+-- ---- within the loop points
+
+-- an address that fits is stored as it is
+pub stored : (a : ℕ) → a < 4294967296 → word 32 (pos a) ≡ a
+unfolding word floorMod
+stored a h = mod-eq-of-lt h
+
+-- in reverse, the test of a target that may be below 0
+pub back-test : (FC START ACCUM : ℕ) → ltZ (pos ACCUM -ℤ pos FC) (pos START) ≡ ltb ACCUM (START + FC)
+back-test FC START ACCUM = (λ i. ltZ (pos-sub ACCUM FC i) (pos-⊖ START i)) ∙ ⊖-lt ACCUM FC START 0 ∙ ap (λ (a : ℕ). ltb a (START + FC)) (add-zero ACCUM)
+
+module _ (CR FC START END ACCUM : ℕ) where
+  pub on-within : flagOf DIR CR ≡ false → ACCUM + FC ≤ END → END < 4294967296 → stepped CR FC START END ACCUM ≡ record { accum = ACCUM + FC; cr = CR }
+  on-within t h k =
+      steps-on CR FC START END ACCUM t ∙ forward-within CR FC START END ACCUM (le-leb (ACCUM + FC) END h) ∙ same-place (stored (ACCUM + FC) (omega arith)) refl
+
+  pub back-within : flagOf DIR CR ≡ true → START + FC ≤ ACCUM → ACCUM < 4294967296 → stepped CR FC START END ACCUM ≡ record { accum = ACCUM - FC; cr = CR }
+  back-within t h k =
+      let e : pos ACCUM -ℤ pos FC ≡ pos (ACCUM - FC) = pos-sub ACCUM FC ∙ is-pos ACCUM FC (ACCUM - FC) (omega arith) in
+      steps-back CR FC START END ACCUM t
+      ∙ reverse-within CR FC START END ACCUM (back-test FC START ACCUM ∙ le-ltb ACCUM (START + FC) h)
+      ∙ same-place (ap (word 32) e ∙ stored (ACCUM - FC) (omega arith)) refl

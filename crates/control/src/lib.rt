@@ -51,11 +51,12 @@ pub fn channel(w: u32) -> u32
     w / 1024 % 8
 }
 
-// The bank of sample memory that the voice reads.
+// The bank of sample memory that the voice reads: the two bits above all others.
 pub fn bank(w: u32) -> u32
+    requires { ⌜ w < 65536 ⌝ }
     ensures { λ r. ⌜ (r ≡ bankOf w) × (r < 4) ⌝ }
 {
-    w / 16384 % 4
+    w / 16384
 }
 
 // Whether the voice runs.

@@ -23,7 +23,7 @@ use Rattle.answer.specs.declared.Answer.the-variants.{Done}
 use Rattle.machine.specs.Words.{wordOf, voiceBits, aboveBits, bitsOf, cut, cutTo, isVector, valid}
 use Rattle.machine.specs.Voices.{voiceAt, putVoice}
 use Rattle.machine.specs.Calls.{sized, checked, resetWord, wordsFrom, fresh}
-use Rattle.frame.specs.Voices.{wordsOf}
+use Rattle.voice.specs.Voice.{wordsOf}
 use Rattle.frame.specs.Frame.{summed, added, signalled, turned, turnAt, turns, heard, silenced, closed, played, frameAnswer, frameRecord, frameOutput}
 
 -- A voice at the top of its left volume, and at volume 0 on the right, its poles filled with p. It loops from END to START 2048, and

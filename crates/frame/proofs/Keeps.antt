@@ -25,11 +25,8 @@ use Rattle.machine.proofs.Parts.{voice-length, voice-word, put-length, put-othe
 use Rattle.machine.proofs.Valid.{Sound, sound-set, sound-put, sound-voice, word-le}
 use Rattle.voice.specs.Turn.{turnOf}
 use Rattle.voice.specs.Ranges.{Ranges}
-use Rattle.voice.specs.declared.Voice.{Voice}
+use Rattle.voice.specs.Voice.{Voice, voiceOf, wordsOf}
 use Rattle.voice.proofs.Keeps.{Places, Follows, turn-follows}
-use Rattle.frame.specs.declared.Said.{Said}
-use Rattle.frame.specs.Speaks.{Speaks}
-use Rattle.frame.specs.Voices.{voiceOf, wordsOf}
 use Rattle.frame.specs.Frame.{summed, added, signalled, turned, turnAt, turns, played}
 use Rattle.frame.proofs.Steps.{added-in, added-none, summed-length, summed-other}
 
@@ -219,20 +216,6 @@ pub sound-turns : (memory : List ℕ) (n : ℕ) {m : List ℕ} → Sound m → n
 unfolding turns
 sound-turns memory zero s h = s
 sound-turns memory (suc n) {m} s h = sound-turn memory n (sound-turns memory n s (omega arith)) h
-
--- ---- the turn as the code has it: the words at a part of the record, and what the turn on them says
-
-pub spoken : (memory m : List ℕ) (v k : ℕ) (after : List ℕ) (s : Said) → k ≡ 20 → Speaks memory (getD m SLOW 0) (take k (drop (20 * v) m)) after s
-    → signalled (added (take (20 * v) m ++ (after ++ drop k (drop (20 * v) m))) (s .channel) (s .left) (s .right)) v (s .cr) ≡ turnAt memory v m
-unfolding turnAt turned voiceAt putVoice
-spoken memory m v k after s e p = rw (p .words, p .channel, p .left, p .right, p .cr, e)
-
--- the record with the part put back is valid
-pub spoken-sound : (memory m : List ℕ) (v k : ℕ) (after : List ℕ) (s : Said) → k ≡ 20 → Speaks memory (getD m SLOW 0) (take k (drop (20 * v) m)) after s → Sound m → v < 32
-    → Sound (take (20 * v) m ++ (after ++ drop k (drop (20 * v) m)))
-unfolding voiceAt putVoice
-spoken-sound memory m v k after s e p r h =
-    rw (p .words, e) (sound-put v (wordsOf (turnOf memory (getD m SLOW 0) (voiceOf (voiceAt m v)) .voice)) r h (words-length (turnOf memory (getD m SLOW 0) (voiceOf (voiceAt m v)) .voice)) (turn-cut memory (getD m SLOW 0) (voiceAt m v) (λ j l. sound-voice m r v j h l)))
 
 -- ---- a whole frame's turns
 

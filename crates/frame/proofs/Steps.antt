@@ -1,5 +1,5 @@
--- The parts of a turn and of the closing by their tests, and the loops' laws: stores over a whole list, one held sum more, a word of the
--- record after a sum. Assumes nothing.
+-- The parts of a turn and of the closing by their tests, and the loops' laws: one held sum more, a word of the record after a
+-- sum. Assumes nothing.
 use mathlib.Core.Path.{_≡_, refl, sym, ap, _∙_}
 use mathlib.Core.Bool.{true, false}
 use mathlib.Core.List.{List, [], _∷_, _++_, map, append-nil}
@@ -11,7 +11,7 @@ use native.Mathlib.Omega.{arith}
 use borrow.Author.Tests.{eq-eqb, ne-eqb, lt-ltb, le-ltb}
 use lib.IntN.{ℤ, pos}
 use lib.ListN.{length, getD, set, take, drop, length-set, drop-of-length-le}
-use lib.Seq.{sets, sets-eq, take-all, getD-set-other}
+use lib.Seq.{take-all, getD-set-other}
 use Rattle.numbers.specs.Numbers.{word}
 use Rattle.numbers.proofs.Tests.{split}
 use Rattle.control.specs.Control.{flagOf, IRQ}
@@ -54,12 +54,6 @@ module _ (m : List ℕ) (v CR : ℕ) where
   signal-none f = rw f
 
 -- ---- loops
-
--- a list that is stored over from its start to its end is what was stored
-pub all-stored : (l vs : List ℕ) → length l ≡ length vs → sets l 0 vs ≡ vs
-all-stored l vs h =
-    let k : length l ≤ 0 + length vs = omega arith in
-    sets-eq vs l 0 (omega arith) ∙ ap (λ (r : List ℕ). vs ++ r) (drop-of-length-le l k) ∙ append-nil vs
 
 -- f of one element more
 map-suc : (f : ℕ → ℤ) (n : ℕ) (s : List ℕ) (d : List ℤ) → n < length s → n < length d

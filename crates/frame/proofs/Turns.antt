@@ -1,16 +1,17 @@
 -- What a turn leaves of each voice, of each sum and of each other word that it is not to touch; and what the closing leaves and puts out.
--- In order: what a turn does with a voice's words, and what it adds to each sum; the parts of a turn; the turn; the closing; the output.
+-- In order: what a turn does with a voice's words, and what it adds to each sum; the parts of a turn; the turn; the turns;
+-- the closing; the output.
 -- Assumes nothing.
 use mathlib.Core.Path.{_≡_, refl, sym, ap, _∙_}
 use mathlib.Core.Bool.{cond, _&&_}
 use mathlib.Core.List.{List, _++_, map}
 use mathlib.Core.Logic.{_≢_}
-use Prim.Native.Nat.{ℕ, _+_, _-_, _*_, _%_, _<_, _≤_}
+use Prim.Native.Nat.{ℕ, zero, suc, _+_, _-_, _*_, _%_, _<_, _≤_}
 use native.Mathlib.Nat.{mod-eq-of-lt}
 use native.Mathlib.Omega.{arith}
 use borrow.Author.Tests.{eqb-true, eqb-false, ltb-true, ltb-false, ne-eqb}
 use lib.Bits.{bitAnd, and-mask}
-use lib.Dec.{eqb, ltb}
+use lib.Dec.{eqb, ltb, lit<}
 use lib.IntN.{ℤ}
 use lib.ListN.{length, getD, set, take, drop, replicate, length-drop, length-append, length-map, getD-replicate, List·getD-append}
 use lib.Seq.{getD-take, getD-drop, getD-append-add, getD-set-same, getD-set-other, length-take-le, ext-getD}
@@ -24,10 +25,10 @@ use Rattle.machine.specs.Voices.{voiceAt, putVoice}
 use Rattle.machine.proofs.Parts.{voice-set-above, voice-same, put-length, put-same, put-other, put-out}
 use Rattle.machine.proofs.Valid.{Sound, sound-set, sound-put, sound-voice}
 use Rattle.voice.specs.Turn.{turnOf}
-use Rattle.frame.specs.Voices.{voiceOf, wordsOf}
-use Rattle.frame.specs.Frame.{summed, added, signalled, turned, turnAt, heard, silenced, closed}
+use Rattle.voice.specs.Voice.{voiceOf, wordsOf}
+use Rattle.frame.specs.Frame.{summed, added, signalled, turned, turnAt, turns, heard, silenced, closed}
 use Rattle.frame.proofs.Steps.{summed-length, summed-other}
-use Rattle.frame.proofs.Keeps.{sum-small, words-length, turn-cut}
+use Rattle.frame.proofs.Keeps.{sum-small, words-length, turn-cut, sound-turns}
 
 -- ---- what a turn does with a voice's words, and what it adds to each sum
 
@@ -63,7 +64,7 @@ unfolding summed
 summed-same m i j z e h = rw e (getD-set-same m i (mixed (getD m i 0) (word 23 z)) 0 h ∙ mixed-is (getD m i 0) (word 23 z))
 
 module _ (m : List ℕ) (channel : ℕ) (left right : ℤ) where
-  added-word : (i : ℕ) → i < SUMS → getD (added m channel left right) i 0 ≡ getD m i 0
+  pub added-word : (i : ℕ) → i < SUMS → getD (added m channel left right) i 0 ≡ getD m i 0
   unfolding added
   added-word i h =
       let n = summed m (SUMS + 2 * channel) left in
@@ -81,7 +82,7 @@ module _ (m : List ℕ) (channel : ℕ) (left right : ℤ) where
       ∙ summed-voice m (SUMS + 2 * channel) left u l h (omega arith))
       (λ _. refl)
 
-  added-length : length (added m channel left right) ≡ length m
+  pub added-length : length (added m channel left right) ≡ length m
   unfolding added
   added-length =
       let n = summed m (SUMS + 2 * channel) left in
@@ -175,6 +176,14 @@ module _ (memory : List ℕ) (v : ℕ) (m : List ℕ) (s : Sound m) (h : v < 32)
   pub turn-other : (u : ℕ) → u < 32 → u ≢ v → voiceAt (turnAt memory v m) u ≡ voiceAt m u
   unfolding put
   turn-other u k d = turn-voice u k ∙ put-other m v (wordsAfter memory (getD m SLOW 0) (voiceAt m v)) long fits u (omega (arith, s .size)) d
+
+-- ---- the turns
+
+pub turns-slow : (memory : List ℕ) (n : ℕ) {m : List ℕ} → Sound m → n ≤ 32 → getD (turns memory n m) SLOW 0 ≡ getD m SLOW 0
+unfolding turns
+turns-slow memory zero s h = refl
+turns-slow memory (suc n) {m} s h =
+    turn-word memory n (turns memory n m) (sound-turns memory n s (omega arith)) h SLOW (lit< tt) (lit< tt) ∙ turns-slow memory n s (omega arith)
 
 -- ---- the closing
 

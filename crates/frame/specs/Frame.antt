@@ -17,8 +17,7 @@ use Rattle.machine.specs.Words.{IRQV, ACTV, SLOW, SUMS}
 use Rattle.machine.specs.Voices.{voiceAt, putVoice}
 use Rattle.machine.specs.Calls.{checked}
 use Rattle.voice.specs.Turn.{turnOf}
-use Rattle.voice.specs.declared.Turn.{Turn}
-use Rattle.frame.specs.Voices.{voiceOf, wordsOf}
+use Rattle.voice.specs.Voice.{Turn, voiceOf, wordsOf}
 
 -- ---- one turn
 

@@ -1,5 +1,5 @@
 // One frame over the record: the turns of voices 0 to ACTV, and the closing.
-// A voice's twenty words are lent to its turn as a part of the record, so no word is copied that the turn leaves as it is.
+// A voice's twenty words are lent to its turn as a part of the record; what it adds to its channel comes back by value, and is added here.
 ghost use mathlib.Core.Path.{_≡_};
 ghost use mathlib.Core.Bool.{true};
 ghost use mathlib.Core.List.{map};
@@ -8,21 +8,10 @@ ghost use lib.ListN.{length, getD, replicate};
 ghost use Rattle.numbers.specs.Numbers.{Within};
 ghost use Rattle.codes.specs.Codes.{Expands};
 ghost use Rattle.channel.specs.Channel.{putOut};
-ghost use Rattle.machine.specs.Words.{WORDS, SUMS, valid};
-ghost use Rattle.voice.specs.Ranges.{Ranges};
-ghost use Rattle.frame.specs.Voices.{voiceOf, wordsOf};
+ghost use Rattle.machine.specs.Words.{WORDS, SLOW, SUMS, valid};
+ghost use Rattle.sample.specs.Lasts.{Lasts};
 ghost use Rattle.frame.specs.Frame.{summed, added, signalled, turnAt, played, heard, closed, frameAnswer, Frames};
-ghost use Rattle.frame.specs.Speaks.{Speaks};
 use answer::Answer;
-use voice::Voice;
-
-// What a voice's turn says to the rest of the machine: its channel, what it adds there, and its control register afterwards.
-struct Said {
-    channel: u32,
-    left: i32,
-    right: i32,
-    cr: u32,
-}
 
 // One frame: twelve values in channel order, left before right.
 pub fn frame(m: &mut [u32], memory: &[u16], out: &mut [i32]) -> Answer
@@ -54,107 +43,37 @@ fn refusal(m: &[u32], memory: &[u16], out: &[i32]) -> Answer
     Answer::Done
 }
 
-// The turns of voices 0 to ACTV. The table of codes is made once here, and lent to each turn.
+// The turns of voices 0 to ACTV. What all turns share is made once here and lent to each: the last word of each bank that is lent, and the
+// table of codes.
 fn play(m: &mut [u32], memory: &[u16])
     requires { ⌜ valid (now m) ≡ true ⌝ }
     ensures { λ _. ⌜ now (m .exit) ≡ played (now (memory .entry)) (now (m .entry)) ⌝ }
 {
+    let lasts = sample::lasts(memory.len());
     let table = codes::values();
+    let slow = m[machine::SLOW];
     let last = m[machine::ACTV];
     let n = count(last);
     for v in 0..n {
-        turn(m, v, memory, &table);
+        turn(m, v, slow, memory, &lasts, &table);
     }
 }
 
 // The turn of voice v.
-fn turn(m: &mut [u32], v: usize, memory: &[u16], table: &[i16; 256])
+fn turn(m: &mut [u32], v: usize, slow: u32, memory: &[u16], lasts: &[usize; 4], table: &[i16; 256])
     requires { ⌜ valid (now m) ≡ true ⌝ }
     requires { ⌜ v < 32 ⌝ }
+    requires { ⌜ slow ≡ getD (now m) SLOW 0 ⌝ }
+    requires { ⌜ Lasts (length (now memory)) (now lasts) ⌝ }
     requires { ⌜ Expands (now table) ⌝ }
     ensures { λ _. ⌜ now (m .exit) ≡ turnAt (now (memory .entry)) v (now (m .entry)) ⌝ }
 {
-    let slow = m[machine::SLOW];
     let a = 20 * v;
     let e = a + 20;
-    let s = turn_of(&mut m[a..e], slow, memory, table);
+    let s = voice::turn(&mut m[a..e], slow, memory, lasts, table);
     add(m, s.channel, s.left, s.right);
-    signal(m, v, s.cr);
-}
-
-// The turn of a voice on its own twenty words.
-fn turn_of(w: &mut [u32], slow: u32, memory: &[u16], table: &[i16; 256]) -> Said
-    requires { ⌜ length (now w) ≡ 20 ⌝ }
-    requires { ⌜ Ranges (voiceOf (now w)) ⌝ }
-    requires { ⌜ Expands (now table) ⌝ }
-    ensures { λ r. ⌜ Speaks (now (memory .entry)) slow (now (w .entry)) (now (w .exit)) r ⌝ }
-{
-    let v = load(w);
-    let t = voice::take_turn(v, slow, memory, table);
-    let after = t.voice;
-    save(w, after);
-    Said {
-        channel: control::channel(v.cr),
-        left: t.left,
-        right: t.right,
-        cr: after.cr,
-    }
-}
-
-// The voice that twenty words are.
-fn load(w: &[u32]) -> Voice
-    requires { ⌜ length (now w) ≡ 20 ⌝ }
-    ensures { λ r. ⌜ r ≡ voiceOf (now (w .entry)) ⌝ }
-{
-    Voice {
-        cr: w[0],
-        fc: w[1],
-        lvol: w[2],
-        lvramp: w[3],
-        rvol: w[4],
-        rvramp: w[5],
-        ecount: w[6],
-        k2: w[7],
-        k2ramp: w[8],
-        k1: w[9],
-        k1ramp: w[10],
-        start: w[11],
-        end: w[12],
-        accum: w[13],
-        o4n1: w[14],
-        o3n1: w[15],
-        o3n2: w[16],
-        o2n1: w[17],
-        o2n2: w[18],
-        o1n1: w[19],
-    }
-}
-
-// The words that a voice is.
-fn save(w: &mut [u32], v: Voice)
-    requires { ⌜ length (now w) ≡ 20 ⌝ }
-    ensures { λ _. ⌜ now (w .exit) ≡ wordsOf v ⌝ }
-{
-    w[0] = v.cr;
-    w[1] = v.fc;
-    w[2] = v.lvol;
-    w[3] = v.lvramp;
-    w[4] = v.rvol;
-    w[5] = v.rvramp;
-    w[6] = v.ecount;
-    w[7] = v.k2;
-    w[8] = v.k2ramp;
-    w[9] = v.k1;
-    w[10] = v.k1ramp;
-    w[11] = v.start;
-    w[12] = v.end;
-    w[13] = v.accum;
-    w[14] = v.o4n1;
-    w[15] = v.o3n1;
-    w[16] = v.o3n2;
-    w[17] = v.o2n1;
-    w[18] = v.o2n2;
-    w[19] = v.o1n1;
+    let cr = m[a];
+    signal(m, v, cr);
 }
 
 // Left and right are added to the sums of a channel; channels 6 and 7 are none.
@@ -212,10 +131,23 @@ fn close(m: &mut [u32], out: &mut [i32])
     requires { ⌜ length (now out) ≡ 12 ⌝ }
     ensures { λ _. ⌜ (now (m .exit) ≡ closed (now (m .entry))) × (now (out .exit) ≡ heard (now (m .entry))) ⌝ }
 {
-    put_out(&m[machine::SUMS..machine::SUMS_END], out);
-    clear(&mut m[machine::SUMS..machine::SUMS_END]);
+    let sums = take_sums(&mut m[machine::SUMS..machine::SUMS_END]);
+    put_out(&sums, out);
     let slow = m[machine::SLOW];
     m[machine::SLOW] = next(slow);
+}
+
+// The sums, which become 0 where they stood. Taken by value they cannot be part of the output, so the compiler holds four at a time.
+fn take_sums(sums: &mut [u32]) -> [u32; 12]
+    requires { ⌜ length (now sums) ≡ 12 ⌝ }
+    ensures { λ r. ⌜ (r ≡ now (sums .entry)) × (now (sums .exit) ≡ replicate 12 0) ⌝ }
+{
+    let mut taken: [u32; 12] = [0; 12];
+    for i in 0..12 {
+        taken[i] = sums[i];
+        sums[i] = 0;
+    }
+    taken
 }
 
 // Each sum, held, goes to its place in the output.
@@ -226,14 +158,6 @@ fn put_out(sums: &[u32], out: &mut [i32])
 {
     for i in 0..sums.len() {
         out[i] = channel::put_out(sums[i]);
-    }
-}
-
-fn clear(sums: &mut [u32])
-    ensures { λ _. ⌜ now (sums .exit) ≡ replicate (length (now (sums .entry))) 0 ⌝ }
-{
-    for i in 0..sums.len() {
-        sums[i] = 0;
     }
 }
 

@@ -1,18 +1,20 @@
--- The check's accumulator of stray bits: it is 0 where every word has only bits that it keeps, one word more at a time; and a word of all
--- voices at once has stray bits where one of them has. Assumes nothing.
+-- The check's accumulator of stray bits: it is 0 where every word has only bits that it keeps, one word more at a time; words gathered into
+-- one have stray bits where one of them has; and the four lanes, which are 0 where one accumulator would be. Assumes nothing.
 use mathlib.Core.Path.{_≡_, refl, sym, ap, ap₂, _∙_}
-use mathlib.Core.Bool.{Bool, true, false, _&&_}
-use mathlib.Core.List.{List}
-use Prim.Native.Nat.{ℕ, _+_, _-_, _*_, _/_, _%_, min, max}
+use mathlib.Core.Bool.{Bool, true, false, _&&_, and-assoc, and-true, and-false, and-comm as &&-comm}
+use mathlib.Core.List.{List, [], _∷_}
+use Prim.Native.Nat.{ℕ, zero, suc, _+_, _-_, _*_, _/_, _%_, _<_, min, max}
+use native.Mathlib.Nat.{not-suc-le-zero, le-of-suc-le-suc}
 use native.Mathlib.Numerals.{add-one}
 use native.Mathlib.Omega.{arith}
 use lib.Arith.{bin-ind}
 use lib.Bits.{bitAnd, bitOr, bitXor, and-step, or-step, or-add-and, xor-add-and, and-comm, and-le-l, and-le-r, xor-self, or-zero-l, and-zero-l}
-use lib.Dec.{eqb}
-use lib.ListN.{getD}
+use lib.Dec.{eqb, eqb→eq}
+use lib.ListN.{length, getD, set, length-set}
 use borrow.Author.Tests.{eq-eqb, ne-eqb, eqb-true, eqb-false}
-use Rattle.machine.specs.Words.{voiceBits}
-use Rattle.machine.specs.Kept.{keptTo, gathered, gatheredKept}
+use Rattle.numbers.proofs.Tests.{all-at}
+use Rattle.machine.specs.Words.{SUMS, bits, voiceBits, bitsOf}
+use Rattle.machine.specs.Kept.{among, keptTo, gathered, inVoices, inSums, gatheredKept, sumsKept, clear, Lanes}
 
 or-zero : (a b : ℕ) → bitOr a b ≡ 0 → (a ≡ 0) × (b ≡ 0)
 or-zero a b h = omega (arith, or-add-and a b, and-le-l a b, and-le-r a b)
@@ -26,22 +28,31 @@ same-test a b c d f g true h = eq-eqb a b (g (eqb-true c d h))
 same-test a b c d f g false h = ne-eqb a b (λ e. eqb-false c d h (f e))
 
 -- two accumulators in one
-pub or-test : (a b : ℕ) (t u : Bool) → eqb a 0 ≡ t → eqb b 0 ≡ u → eqb (bitOr a b) 0 ≡ (t && u)
+or-test : (a b : ℕ) (t u : Bool) → eqb a 0 ≡ t → eqb b 0 ≡ u → eqb (bitOr a b) 0 ≡ (t && u)
 or-test a b true u h k = rw (eqb-true a 0 h, or-zero-l) k
 or-test a b false u h k = ne-eqb (bitOr a b) 0 (λ e. eqb-false a 0 h (or-zero a b e .0))
 
+-- two tests joined with two others, pair by pair
+pairwise : (a b c d : Bool) → ((a && b) && (c && d)) ≡ ((a && c) && (b && d))
+pairwise true true c d = refl
+pairwise true false c d = sym (and-false c)
+pairwise false b c d = refl
+
 -- the stray bits of one word
-stray-test : (x k : ℕ) → eqb (bitXor x (bitAnd x k)) 0 ≡ eqb (bitAnd x k) x
+stray-test : (x k : ℕ) → eqb (bitXor x (bitAnd x k)) 0 ≡ among x k
 stray-test x k =
-    same-test (bitXor x (bitAnd x k)) 0 (bitAnd x k) x (λ e. sym (xor-zero x (bitAnd x k) e)) (λ e. rw (e, xor-self)) (eqb (bitAnd x k) x) refl
+    same-test (bitXor x (bitAnd x k)) 0 (bitAnd x k) x (λ e. sym (xor-zero x (bitAnd x k) e)) (λ e. rw (e, xor-self)) (among x k) refl
+
+-- they join those in an accumulator
+joins : (acc x k : ℕ) (t : Bool) → eqb acc 0 ≡ t → eqb (bitOr acc (bitXor x (bitAnd x k))) 0 ≡ (t && among x k)
+joins acc x k t h = or-test acc (bitXor x (bitAnd x k)) t (among x k) h (stray-test x k)
 
 pub one-word-more : (w k : List ℕ) (i acc : ℕ) → eqb acc 0 ≡ keptTo w k i
     → eqb (bitOr acc (bitXor (getD w i 0) (bitAnd (getD w i 0) (getD k i 0)))) 0 ≡ keptTo w k (i + 1)
 unfolding keptTo
-one-word-more w k i acc h = rw add-one
-    (or-test acc (bitXor (getD w i 0) (bitAnd (getD w i 0) (getD k i 0))) (keptTo w k i) (eqb (bitAnd (getD w i 0) (getD k i 0)) (getD w i 0)) h (stray-test (getD w i 0) (getD k i 0)))
+one-word-more w k i acc h = rw add-one (joins acc (getD w i 0) (getD k i 0) (keptTo w k i) h)
 
--- ---- a word of all voices at once
+-- ---- several words at once
 
 -- a number that is cut to some bits is cut to them already
 pub and-again : (x m : ℕ) → bitAnd (bitAnd x m) m ≡ bitAnd x m
@@ -101,16 +112,78 @@ less-or =
     ap (λ (x : ℕ). x - bitAnd x k) (or-step a b) ∙ whole ∙ sym joined ∙ sym (ap₂ bitOr (less-step a k) (less-step b k)))
 
 -- a bit is kept by both together where it is by each
-pub or-kept : (a b k : ℕ) → eqb (bitAnd (bitOr a b) k) (bitOr a b) ≡ (eqb (bitAnd a k) a && eqb (bitAnd b k) b)
+pub or-kept : (a b k : ℕ) → among (bitOr a b) k ≡ (among a k && among b k)
 or-kept a b k =
     let e : bitXor (bitOr a b) (bitAnd (bitOr a b) k) ≡ bitOr (bitXor a (bitAnd a k)) (bitXor b (bitAnd b k)) =
     stray-less (bitOr a b) k ∙ less-or a b k ∙ sym (ap₂ bitOr (stray-less a k) (stray-less b k)) in
     sym (stray-test (bitOr a b) k) ∙ ap (λ (x : ℕ). eqb x 0) e
-    ∙ or-test (bitXor a (bitAnd a k)) (bitXor b (bitAnd b k)) (eqb (bitAnd a k) a) (eqb (bitAnd b k) b) (stray-test a k) (stray-test b k)
+    ∙ or-test (bitXor a (bitAnd a k)) (bitXor b (bitAnd b k)) (among a k) (among b k) (stray-test a k) (stray-test b k)
 
-pub one-more-gathered : (m : List ℕ) (j acc : ℕ) → eqb acc 0 ≡ gatheredKept m j
-    → eqb (bitOr acc (bitXor (gathered m j 32) (bitAnd (gathered m j 32) (getD voiceBits j 0)))) 0 ≡ gatheredKept m (j + 1)
+-- one word more, the one at place k
+pub one-gathered : (m : List ℕ) (d i n k acc : ℕ) → k ≡ d * n + i → acc ≡ gathered m d i n → bitOr acc (getD m k 0) ≡ gathered m d i (n + 1)
+unfolding gathered
+one-gathered m d i n k acc e h = rw add-one (ap₂ (λ (x y : ℕ). bitOr x (getD m y 0)) h e)
+
+pub three-sums : (m : List ℕ) (l : ℕ) → bitOr (bitOr (getD m (SUMS + l) 0) (getD m (SUMS + 4 + l) 0)) (getD m (SUMS + 8 + l) 0) ≡ inSums m l
+unfolding gathered
+three-sums m l =
+    one-gathered m 4 (SUMS + l) 2 (SUMS + 8 + l) _ (omega arith)
+    (one-gathered m 4 (SUMS + l) 1 (SUMS + 4 + l) _ (omega arith) (one-gathered m 4 (SUMS + l) 0 (SUMS + l) 0 (omega arith) refl))
+
+-- the last four words of the voices keep the same bits
+pub last-bits : (l : ℕ) → l < 4 → bits 17 0 ≡ getD voiceBits (16 + l) 0
+unfolding voiceBits
+last-bits l h = eqb→eq (bits 17 0) (getD voiceBits (16 + l) 0) (all-at (λ k. eqb (bits 17 0) (getD voiceBits (16 + k) 0)) 4 tt l h)
+
+-- ---- the lanes
+
+-- lane l takes in what is 0 where u passes
+clear-set : (s : List ℕ) (l y : ℕ) (u : Bool) → l < length s → eqb y 0 ≡ (eqb (getD s l 0) 0 && u) → clear (set s l y) ≡ (clear s && u)
+unfolding clear
+clear-set [] l y u h e = absurd (not-suc-le-zero h)
+clear-set (x ∷ s) zero y u h e =
+    ap (λ (b : Bool). b && clear s) e ∙ and-assoc (eqb x 0) u (clear s) ∙ ap (λ (b : Bool). eqb x 0 && b) (&&-comm u (clear s))
+    ∙ sym (and-assoc (eqb x 0) (clear s) u)
+clear-set (x ∷ s) (suc l) y u h e =
+    ap (λ (b : Bool). eqb x 0 && b) (clear-set s l y u (le-of-suc-le-suc h) e) ∙ sym (and-assoc (eqb x 0) (clear s) u)
+
+one-lane : {s : List ℕ} {t : Bool} → Lanes s t → (l y : ℕ) (u : Bool) → l < 4 → eqb y 0 ≡ (eqb (getD s l 0) 0 && u) → Lanes (set s l y) (t && u)
+one-lane {s} p l y u h e = record {
+  four = length-set s l y ∙ p .four;
+  tell = clear-set s l y u (omega (arith, p .four)) e ∙ ap (λ (b : Bool). b && u) (p .tell);
+}
+
+-- a word of the voices goes into lane l
+pub one-more-gathered : (m : List ℕ) (j l x k : ℕ) {s : List ℕ} → Lanes s (gatheredKept m j) → l < 4 → x ≡ inVoices m j → k ≡ getD voiceBits j 0
+    → Lanes (set s l (bitOr (getD s l 0) (bitXor x (bitAnd x k)))) (gatheredKept m (j + 1))
 unfolding gatheredKept
-one-more-gathered m j acc h = rw add-one
-    (or-test acc (bitXor (gathered m j 32) (bitAnd (gathered m j 32) (getD voiceBits j 0))) (gatheredKept m j) (eqb (bitAnd (gathered m j 32) (getD voiceBits j 0)) (gathered m j 32)) h
-    (stray-test (gathered m j 32) (getD voiceBits j 0)))
+one-more-gathered m j l x k {s} p h ex ek =
+    rw (add-one, ← ex, ← ek) (one-lane p l _ (among x k) h (joins (getD s l 0) x k (eqb (getD s l 0) 0) refl))
+
+-- and with it sum l and those 4 and 8 after it
+pub one-more-of-both : (m : List ℕ) (j l x k y : ℕ) {s : List ℕ} → Lanes s (gatheredKept m j && sumsKept m l) → l < 4
+    → x ≡ inVoices m j → k ≡ getD voiceBits j 0 → y ≡ inSums m l
+    → Lanes (set s l (bitOr (bitOr (getD s l 0) (bitXor x (bitAnd x k))) (bitXor y (bitAnd y (bitsOf SUMS))))) (gatheredKept m (j + 1) && sumsKept m (l + 1))
+unfolding gatheredKept sumsKept
+one-more-of-both m j l x k y {s} p h ex ek ey =
+    let old = eqb (getD s l 0) 0 in
+    let z = bitsOf SUMS in
+    rw (add-one j, add-one l, ← ex, ← ek, ← ey, ← (pairwise (gatheredKept m j) (sumsKept m l) (among x k) (among y z)))
+    (one-lane p l _ (among x k && among y z) h
+    (joins (bitOr (getD s l 0) (bitXor x (bitAnd x k))) y z (old && among x k) (joins (getD s l 0) x k old refl) ∙ and-assoc old (among x k) (among y z)))
+
+-- all lanes in one
+clear-four : (s : List ℕ) → length s ≡ 4 → eqb (bitOr (bitOr (bitOr (getD s 0 0) (getD s 1 0)) (getD s 2 0)) (getD s 3 0)) 0 ≡ clear s
+unfolding clear
+clear-four (a ∷ b ∷ c ∷ d ∷ []) h =
+    or-test (bitOr (bitOr a b) c) d (eqb a 0 && eqb b 0 && eqb c 0) (eqb d 0)
+    (or-test (bitOr a b) c (eqb a 0 && eqb b 0) (eqb c 0) (or-test a b (eqb a 0) (eqb b 0) refl refl) refl) refl
+    ∙ simp (and-assoc, and-true)
+clear-four [] h = absurd (let z : ⊥ = omega arith in z)
+clear-four (a ∷ []) h = absurd (let z : ⊥ = omega arith in z)
+clear-four (a ∷ b ∷ []) h = absurd (let z : ⊥ = omega arith in z)
+clear-four (a ∷ b ∷ c ∷ []) h = absurd (let z : ⊥ = omega arith in z)
+clear-four (a ∷ b ∷ c ∷ d ∷ e ∷ s) h = absurd (let z : ⊥ = omega arith in z)
+
+pub four-lanes : {s : List ℕ} {t : Bool} → Lanes s t → eqb (bitOr (bitOr (bitOr (getD s 0 0) (getD s 1 0)) (getD s 2 0)) (getD s 3 0)) 0 ≡ t
+four-lanes {s} p = clear-four s (p .four) ∙ p .tell

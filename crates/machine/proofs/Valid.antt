@@ -10,14 +10,14 @@ use native.Mathlib.Nat.{not-suc-le-zero}
 use native.Mathlib.Decide.{ℕ-discrete}
 use native.Mathlib.Omega.{arith}
 use lib.Bits.{bitAnd, and-le-r, and-zero-l}
-use lib.Dec.{eqb, ltb}
+use lib.Dec.{eqb, ltb, eqb→eq}
 use lib.ListN.{length, getD, set, take, drop, length-set, length-take, length-drop}
 use lib.Seq.{getD-take, getD-drop, getD-set-same, getD-set-other}
 use borrow.Author.Tests.{eq-eqb, eqb-true, lt-ltb, le-ltb}
-use Rattle.numbers.proofs.Tests.{cases, split}
-use Rattle.machine.specs.Words.{WORDS, ABOVE, IRQV, voiceBits, aboveBits, bitsOf, cut, cutTo, isVector, valid}
+use Rattle.numbers.proofs.Tests.{cases, split, all-at}
+use Rattle.machine.specs.Words.{WORDS, ABOVE, PAGE, IRQV, SUMS, voiceBits, aboveBits, bitsOf, cut, cutTo, isVector, valid}
 use Rattle.machine.specs.Voices.{voiceAt, putVoice}
-use Rattle.machine.specs.Kept.{keptTo, keptBy, gathered, gatheredKept}
+use Rattle.machine.specs.Kept.{among, keptTo, keptBy, gathered, gatheredKept, sumsKept}
 use Rattle.machine.proofs.Kept.{and-again, or-kept}
 use Rattle.machine.proofs.Parts.{voice-word, put-length, put-in, put-out}
 
@@ -87,12 +87,15 @@ pub bits-voice : (v j : ℕ) → v < 32 → j < 20 → bitsOf (20 * v + j) ≡ g
 unfolding bitsOf
 bits-voice v j h k = let e : (20 * v + j) % 20 ≡ j = omega arith in rw (lt-ltb (20 * v + j) 640 (omega arith), e)
 
-bits-above : (j : ℕ) → bitsOf (640 + j) ≡ getD aboveBits j 0
-unfolding bitsOf
-bits-above j = let e : 640 + j - 640 ≡ j = omega arith in rw (le-ltb (640 + j) 640 (omega arith), e)
+-- all twelve sums keep the same
+bits-sum : (v j : ℕ) → v < 3 → j < 4 → bitsOf (4 * v + (SUMS + j)) ≡ bitsOf SUMS
+unfolding bitsOf aboveBits
+bits-sum v j h k =
+    let e : SUMS + (4 * v + j) ≡ 4 * v + (SUMS + j) = omega arith in
+    rw (← e) (eqb→eq (bitsOf (SUMS + (4 * v + j))) (bitsOf SUMS) (all-at (λ (n : ℕ). eqb (bitsOf (SUMS + n)) (bitsOf SUMS)) 12 tt (4 * v + j) (omega arith)))
 
 passes : List ℕ → List ℕ → ℕ → Bool
-passes w k i = eqb (bitAnd (getD w i 0) (getD k i 0)) (getD w i 0)
+passes w k i = among (getD w i 0) (getD k i 0)
 
 kept-each : (w k : List ℕ) (n : ℕ) → keptTo w k n ≡ true → (i : ℕ) → i < n → bitAnd (getD w i 0) (getD k i 0) ≡ getD w i 0
 unfolding keptTo passes
@@ -102,63 +105,103 @@ kept-all : (w k : List ℕ) (n : ℕ) → ((i : ℕ) → i < n → bitAnd (getD 
 unfolding keptTo passes
 kept-all w k n f = from-each (passes w k) (keptTo w k) refl (λ j. refl) n (λ i l. eq-eqb (bitAnd (getD w i 0) (getD k i 0)) (getD w i 0) (f i l))
 
--- word j of voice v, and of all voices at once
-voice-passes : List ℕ → ℕ → ℕ → Bool
-voice-passes m j v = eqb (bitAnd (getD m (20 * v + j) 0) (getD voiceBits j 0)) (getD m (20 * v + j) 0)
+-- words that are d apart, from word i on: each has only bits of k, or all at once
+module _ (m : List ℕ) (d i k : ℕ) where
+  none-passes : among (gathered m d i zero) k ≡ true
+  unfolding gathered
+  none-passes = ap (λ (x : ℕ). eqb x 0) (and-zero-l k)
 
-all-pass : List ℕ → ℕ → ℕ → Bool
-all-pass m j n = eqb (bitAnd (gathered m j n) (getD voiceBits j 0)) (gathered m j n)
+  one-passes : (n : ℕ) → among (gathered m d i (suc n)) k ≡ (among (gathered m d i n) k && among (getD m (d * n + i) 0) k)
+  unfolding gathered
+  one-passes n = or-kept (gathered m d i n) (getD m (d * n + i) 0) k
 
-none-passes : (m : List ℕ) (j : ℕ) → all-pass m j zero ≡ true
-unfolding all-pass gathered
-none-passes m j = ap (λ (x : ℕ). eqb x 0) (and-zero-l (getD voiceBits j 0))
+  gathered-each : (n : ℕ) → among (gathered m d i n) k ≡ true → (v : ℕ) → v < n → bitAnd (getD m (d * v + i) 0) k ≡ getD m (d * v + i) 0
+  gathered-each n h v l =
+      eqb-true (bitAnd (getD m (d * v + i) 0) k) (getD m (d * v + i) 0)
+      (each (λ (u : ℕ). among (getD m (d * u + i) 0) k) (λ (u : ℕ). among (gathered m d i u) k) none-passes one-passes n h v l)
 
-one-passes : (m : List ℕ) (j v : ℕ) → all-pass m j (suc v) ≡ (all-pass m j v && voice-passes m j v)
-unfolding all-pass gathered voice-passes
-one-passes m j v = or-kept (gathered m j v) (getD m (20 * v + j) 0) (getD voiceBits j 0)
+  gathered-all : (n : ℕ) → ((v : ℕ) → v < n → bitAnd (getD m (d * v + i) 0) k ≡ getD m (d * v + i) 0) → among (gathered m d i n) k ≡ true
+  gathered-all n f = from-each (λ (u : ℕ). among (getD m (d * u + i) 0) k) (λ (u : ℕ). among (gathered m d i u) k) none-passes one-passes n
+      (λ v l. eq-eqb (bitAnd (getD m (d * v + i) 0) k) (getD m (d * v + i) 0) (f v l))
 
--- the words above the voices, as the check is lent them
+-- a table in the record: r rows that are d words apart; its column j begins at word `at j`, and its words keep the bits `k j`. The test
+-- `all` of its first columns, with all rows at once, is the test of each word
+module _ (m : List ℕ) (d r : ℕ) (at k : ℕ → ℕ) (all : ℕ → Bool) (none : all zero ≡ true)
+    (one : (j : ℕ) → all (suc j) ≡ (all j && among (gathered m d (at j) r) (k j))) where
+  table-each : (n : ℕ) → all n ≡ true → (v j : ℕ) → v < r → j < n → bitAnd (getD m (d * v + at j) 0) (k j) ≡ getD m (d * v + at j) 0
+  table-each n h v j vk jk = gathered-each m d (at j) (k j) r (each (λ (u : ℕ). among (gathered m d (at u) r) (k u)) all none one n h j jk) v vk
+
+  table-all : (n : ℕ) → ((v j : ℕ) → v < r → j < n → bitAnd (getD m (d * v + at j) 0) (k j) ≡ getD m (d * v + at j) 0) → all n ≡ true
+  table-all n f = from-each (λ (u : ℕ). among (gathered m d (at u) r) (k u)) all none one n
+      (λ j jk. gathered-all m d (at j) (k j) r (λ v vk. f v j vk jk))
+
+-- the words between the voices and the sums, as the check is lent them, and the bits that they keep
 unfoldable pub above-part : List ℕ → List ℕ
-above-part m = take 23 (drop 640 m)
+above-part m = take 11 (drop PAGE m)
 
-above-word : (m : List ℕ) (j : ℕ) → j < 23 → getD (take 23 (drop 640 m)) j 0 ≡ getD m (640 + j) 0
+unfoldable pub above-bits : List ℕ
+above-bits = take 11 aboveBits
+
+above-word : (m : List ℕ) (j : ℕ) → j < 11 → getD (above-part m) j 0 ≡ getD m (PAGE + j) 0
+unfolding above-part
 above-word m j h = rw (getD-take, getD-drop)
 
--- all voices at once and above, or word by word: one test
-words-found : (m : List ℕ) → gatheredKept m 20 ≡ true → keptBy (above-part m) aboveBits ≡ true → (i : ℕ) → i < WORDS → cut i (getD m i 0) ≡ getD m i 0
-unfolding cut gatheredKept all-pass voice-passes above-part aboveBits
-words-found m hv ha i h = cases i 640 (bitAnd (getD m i 0) (bitsOf i) ≡ getD m i 0)
-    (λ l.
-    let v = i / 20 in
-    let j = i % 20 in
-    let jk : j < 20 = omega arith in
-    let vk : v < 32 = omega arith in
-    let e : 20 * v + j ≡ i = omega arith in
-    let p = each (voice-passes m j) (all-pass m j) (none-passes m j) (one-passes m j) 32 (each (λ (u : ℕ). all-pass m u 32) (gatheredKept m) refl (λ u. refl) 20 hv j jk) v vk in
-    let q : bitAnd (getD m (20 * v + j) 0) (bitsOf (20 * v + j)) ≡ getD m (20 * v + j) 0 = rw (bits-voice v j vk jk) (eqb-true (bitAnd (getD m (20 * v + j) 0) (getD voiceBits j 0)) (getD m (20 * v + j) 0) p) in
-    subst (λ (k : ℕ). bitAnd (getD m k 0) (bitsOf k) ≡ getD m k 0) e q)
-    (λ l.
-    let j = i - 640 in
-    let jk : j < 23 = omega arith in
-    let e : 640 + j ≡ i = omega arith in
-    let p = kept-each (above-part m) aboveBits 23 ha j jk in
-    let q : bitAnd (getD m (640 + j) 0) (bitsOf (640 + j)) ≡ getD m (640 + j) 0 = rw (← (above-word m j jk), bits-above j) p in
-    subst (λ (k : ℕ). bitAnd (getD m k 0) (bitsOf k) ≡ getD m k 0) e q)
+bits-above : (j : ℕ) → j < 11 → bitsOf (PAGE + j) ≡ getD above-bits j 0
+unfolding bitsOf above-bits
+bits-above j h = let e : PAGE + j - ABOVE ≡ j = omega arith in rw (le-ltb (PAGE + j) ABOVE (omega arith), e, getD-take 11 aboveBits j 0 h)
 
-voices-found : (m : List ℕ) → ((i : ℕ) → i < WORDS → cut i (getD m i 0) ≡ getD m i 0) → gatheredKept m 20 ≡ true
-unfolding cut gatheredKept all-pass voice-passes
-voices-found m f = from-each (λ (j : ℕ). all-pass m j 32) (gatheredKept m) refl (λ u. refl) 20
-    (λ j k. from-each (voice-passes m j) (all-pass m j) (none-passes m j) (one-passes m j) 32
-    (λ v l. eq-eqb (bitAnd (getD m (20 * v + j) 0) (getD voiceBits j 0)) (getD m (20 * v + j) 0) (rw (← (bits-voice v j l k)) (f (20 * v + j) (omega arith)))))
+-- word i, where it was found under the number n, with the bits k that it keeps
+found : (m : List ℕ) (i n k : ℕ) → n ≡ i → bitsOf n ≡ k → bitAnd (getD m n 0) k ≡ getD m n 0 → cut i (getD m i 0) ≡ getD m i 0
+unfolding cut
+found m i n k e b p = subst (λ (x : ℕ). bitAnd (getD m x 0) (bitsOf x) ≡ getD m x 0) e (rw b p)
 
-above-found : (m : List ℕ) → ((i : ℕ) → i < WORDS → cut i (getD m i 0) ≡ getD m i 0) → keptBy (above-part m) aboveBits ≡ true
-unfolding cut above-part aboveBits
-above-found m f = kept-all (above-part m) aboveBits 23 (λ j l. rw (above-word m j l, ← (bits-above j)) (f (640 + j) (omega arith)))
+-- all voices at once, the sums four by four and the words between, or word by word: one test
+module _ (m : List ℕ) where
+  words-found : gatheredKept m 20 ≡ true → sumsKept m 4 ≡ true → keptBy (above-part m) above-bits ≡ true → (i : ℕ) → i < WORDS → cut i (getD m i 0) ≡ getD m i 0
+  unfolding gatheredKept sumsKept above-bits aboveBits
+  words-found hv hs ha i h = cases i PAGE (cut i (getD m i 0) ≡ getD m i 0)
+      (λ l.
+      let v = i / 20 in
+      let j = i % 20 in
+      let vk : v < 32 = omega arith in
+      let jk : j < 20 = omega arith in
+      found m i (20 * v + j) (getD voiceBits j 0) (omega arith) (bits-voice v j vk jk)
+      (table-each m 20 32 (λ j. j) (λ j. getD voiceBits j 0) (gatheredKept m) refl (λ j. refl) 20 hv v j vk jk))
+      (λ l. cases i SUMS (cut i (getD m i 0) ≡ getD m i 0)
+      (λ q.
+      let j = i - PAGE in
+      let jk : j < 11 = omega arith in
+      found m i (PAGE + j) (getD above-bits j 0) (omega arith) (bits-above j jk) (rw (← (above-word m j jk)) (kept-each (above-part m) above-bits 11 ha j jk)))
+      (λ q.
+      let v = (i - SUMS) / 4 in
+      let j = (i - SUMS) % 4 in
+      let vk : v < 3 = omega arith in
+      let jk : j < 4 = omega arith in
+      found m i (4 * v + (SUMS + j)) (bitsOf SUMS) (omega arith) (bits-sum v j vk jk)
+      (table-each m 4 3 (λ j. SUMS + j) (λ j. bitsOf SUMS) (sumsKept m) refl (λ j. refl) 4 hs v j vk jk)))
 
-pub words-test : (m : List ℕ) → (gatheredKept m 20 && keptBy (above-part m) aboveBits) ≡ cutTo m WORDS
-words-test m = same-bool (gatheredKept m 20 && keptBy (above-part m) aboveBits) (cutTo m WORDS)
-    (λ h. let p = both (gatheredKept m 20) (keptBy (above-part m) aboveBits) h in cut-all m WORDS (words-found m (p .0) (p .1)))
-    (λ h. let f = cut-each m WORDS h in ap₂ _&&_ (voices-found m f) (above-found m f))
+  module _ (f : (i : ℕ) → i < WORDS → cut i (getD m i 0) ≡ getD m i 0) where
+    voices-found : gatheredKept m 20 ≡ true
+    unfolding cut gatheredKept
+    voices-found = table-all m 20 32 (λ j. j) (λ j. getD voiceBits j 0) (gatheredKept m) refl (λ j. refl) 20
+        (λ v j vk jk. rw (← (bits-voice v j vk jk)) (f (20 * v + j) (omega arith)))
+
+    sums-found : sumsKept m 4 ≡ true
+    unfolding cut sumsKept
+    sums-found = table-all m 4 3 (λ j. SUMS + j) (λ j. bitsOf SUMS) (sumsKept m) refl (λ j. refl) 4
+        (λ v j vk jk. rw (← (bits-sum v j vk jk)) (f (4 * v + (SUMS + j)) (omega arith)))
+
+    above-found : keptBy (above-part m) above-bits ≡ true
+    unfolding cut above-bits aboveBits
+    above-found = kept-all (above-part m) above-bits 11 (λ j jk. rw (above-word m j jk, ← (bits-above j jk)) (f (PAGE + j) (omega arith)))
+
+  pub words-test : (gatheredKept m 20 && sumsKept m 4 && keptBy (above-part m) above-bits) ≡ cutTo m WORDS
+  words-test = same-bool (gatheredKept m 20 && sumsKept m 4 && keptBy (above-part m) above-bits) (cutTo m WORDS)
+      (λ h.
+      let p = both (gatheredKept m 20 && sumsKept m 4) (keptBy (above-part m) above-bits) h in
+      let q = both (gatheredKept m 20) (sumsKept m 4) (p .0) in
+      cut-all m WORDS (words-found (q .0) (q .1) (p .1)))
+      (λ h. let f = cut-each m WORDS h in ap₂ _&&_ (ap₂ _&&_ (voices-found f) (sums-found f)) (above-found f))
 
 -- ---- what keeps a record valid
 

@@ -1,27 +1,55 @@
--- Validity as the check goes about it: what its functions promise to one another. In order: words against the bits that they keep; a word
--- of all voices at once. Assumes nothing.
-use Prim.Native.Nat.{ℕ, zero, suc}
+-- Validity as the check goes about it: what its functions promise to one another. In order: words against the bits that they keep; words
+-- that keep the same bits, several at once; the lanes that hold stray bits side by side. Assumes nothing.
+use mathlib.Core.Path.{_≡_}
+use Prim.Native.Nat.{ℕ, zero, suc, _+_, _*_}
 use mathlib.Core.Bool.{Bool, true, _&&_}
-use mathlib.Core.List.{List}
+use mathlib.Core.List.{List, [], _∷_}
 use lib.Bits.{bitAnd, bitOr}
 use lib.Dec.{eqb}
 use lib.ListN.{length, getD}
-use Rattle.machine.specs.Words.{voiceBits, wordOf}
+use Rattle.machine.specs.Words.{SUMS, voiceBits, bitsOf}
+
+-- x has only bits that are among those of k
+abbrev pub among : ℕ → ℕ → Bool
+among x k = eqb (bitAnd x k) x
 
 -- each of the first n words of w has only bits that its entry in k keeps
 unfoldable pub keptTo : List ℕ → List ℕ → ℕ → Bool
 keptTo w k zero = true
-keptTo w k (suc i) = keptTo w k i && eqb (bitAnd (getD w i 0) (getD k i 0)) (getD w i 0)
+keptTo w k (suc i) = keptTo w k i && among (getD w i 0) (getD k i 0)
 
 abbrev pub keptBy : List ℕ → List ℕ → Bool
 keptBy w k = keptTo w k (length k)
 
--- all bits that word j has in the first n voices
-unfoldable pub gathered : List ℕ → ℕ → ℕ → ℕ
-gathered m j zero = 0
-gathered m j (suc v) = bitOr (gathered m j v) (getD m (wordOf v j) 0)
+-- all bits that word i has, and the words d, 2 d and so on after it: n words in all
+unfoldable pub gathered : List ℕ → ℕ → ℕ → ℕ → ℕ
+gathered m d i zero = 0
+gathered m d i (suc n) = bitOr (gathered m d i n) (getD m (d * n + i) 0)
+
+-- all bits that word j has in any voice
+abbrev pub inVoices : List ℕ → ℕ → ℕ
+inVoices m j = gathered m 20 j 32
+
+-- all bits that sum l has, and the sums 4 and 8 after it
+abbrev pub inSums : List ℕ → ℕ → ℕ
+inSums m l = gathered m 4 (SUMS + l) 3
 
 -- each of the first n words of the voices has in no voice a bit that it does not keep
 unfoldable pub gatheredKept : List ℕ → ℕ → Bool
 gatheredKept m zero = true
-gatheredKept m (suc j) = gatheredKept m j && eqb (bitAnd (gathered m j 32) (getD voiceBits j 0)) (gathered m j 32)
+gatheredKept m (suc j) = gatheredKept m j && among (inVoices m j) (getD voiceBits j 0)
+
+-- none of the first n sums, nor of those 4 and 8 after each, has a bit that it does not keep; all sums keep the same
+unfoldable pub sumsKept : List ℕ → ℕ → Bool
+sumsKept m zero = true
+sumsKept m (suc l) = sumsKept m l && among (inSums m l) (bitsOf SUMS)
+
+-- no lane has a bit
+unfoldable pub clear : List ℕ → Bool
+clear [] = true
+clear (x ∷ s) = eqb x 0 && clear s
+
+-- the four lanes, of which none has a bit where the test t passes, and one has where it does not
+pub record Lanes (s : List ℕ) (t : Bool) : Type 0 where
+  pub four : length s ≡ 4
+  pub tell : clear s ≡ t

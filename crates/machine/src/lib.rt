@@ -1,10 +1,11 @@
 // The machine record: its words by name, the bits that each keeps, the check that every call begins with, and reset.
 ghost use mathlib.Core.Path.{_≡_};
-ghost use Prim.Native.Nat.{_<_};
+ghost use mathlib.Core.Bool.{_&&_};
+ghost use Prim.Native.Nat.{_+_, _<_, _≤_};
 ghost use lib.Dec.{eqb};
 ghost use lib.ListN.{length};
-ghost use Rattle.machine.specs.Words.{bitsOf, WORDS as Words·WORDS};
-ghost use Rattle.machine.specs.Kept.{keptBy, gathered};
+ghost use Rattle.machine.specs.Words.{bitsOf, voiceBits, WORDS as Words·WORDS};
+ghost use Rattle.machine.specs.Kept.{keptBy, inVoices, gatheredKept, sumsKept, Lanes};
 ghost use Rattle.machine.specs.Calls.{checked, Resets, fresh};
 ghost use Rattle.machine.specs.Calls.{resetWord as Calls·resetWord};
 use answer::Answer;
@@ -39,6 +40,11 @@ pub const SUMS: usize = 651;
 // The word after the last sum.
 pub const SUMS_END: usize = 663;
 
+// The bits kept by a filter word of a voice, and by a sum: the check holds four of them at a time against one mask.
+const FILTER_BITS: u32 = 0x3FFFF;
+
+const SUM_BITS: u32 = 0x7F_FFFF;
+
 // The bits kept by a voice's words, and by the words above the voices.
 const VOICE_BITS: [u32; 20] = [
     0xFFFF, // CR
@@ -55,12 +61,12 @@ const VOICE_BITS: [u32; 20] = [
     0xFFFF_F800, // START
     0xFFFF_FF80, // END
     0xFFFF_FFFF, // ACCUM
-    0x3FFFF, // O4(n-1)
-    0x3FFFF, // O3(n-1)
-    0x3FFFF, // O3(n-2)
-    0x3FFFF, // O2(n-1)
-    0x3FFFF, // O2(n-2)
-    0x3FFFF, // O1(n-1)
+    FILTER_BITS, // O4(n-1)
+    FILTER_BITS, // O3(n-1)
+    FILTER_BITS, // O3(n-2)
+    FILTER_BITS, // O2(n-1)
+    FILTER_BITS, // O2(n-2)
+    FILTER_BITS, // O1(n-1)
 ];
 
 const ABOVE_BITS: [u32; 23] = [
@@ -75,18 +81,18 @@ const ABOVE_BITS: [u32; 23] = [
     0x7, // the slow-ramp counter
     0xFFFF_FFFF, // the write latch
     0xFFFF_FFFF, // the read latch
-    0x7F_FFFF, // sum 0L
-    0x7F_FFFF, // sum 0R
-    0x7F_FFFF, // sum 1L
-    0x7F_FFFF, // sum 1R
-    0x7F_FFFF, // sum 2L
-    0x7F_FFFF, // sum 2R
-    0x7F_FFFF, // sum 3L
-    0x7F_FFFF, // sum 3R
-    0x7F_FFFF, // sum 4L
-    0x7F_FFFF, // sum 4R
-    0x7F_FFFF, // sum 5L
-    0x7F_FFFF, // sum 5R
+    SUM_BITS, // sum 0L
+    SUM_BITS, // sum 0R
+    SUM_BITS, // sum 1L
+    SUM_BITS, // sum 1R
+    SUM_BITS, // sum 2L
+    SUM_BITS, // sum 2R
+    SUM_BITS, // sum 3L
+    SUM_BITS, // sum 3R
+    SUM_BITS, // sum 4L
+    SUM_BITS, // sum 4R
+    SUM_BITS, // sum 5L
+    SUM_BITS, // sum 5R
 ];
 
 // The bits that word i keeps.
@@ -103,23 +109,25 @@ pub fn bits_of(i: usize) -> u32
     }
 }
 
-// Whether a record may be used: its length, then its words. All words are looked at, with no way out on the way, so that the compiler
-// takes several at a time.
+// Whether a record may be used: its length, then its words. The stray bits of the voices and of the sums go into four lanes, which are
+// judged when all are in, so that the compiler takes four words at a time.
 pub fn check(m: &[u32]) -> Answer
     ensures { λ r. ⌜ r ≡ checked (now (m .entry)) ⌝ }
 {
     if m.len() != WORDS {
         return Answer::RecordSize;
     }
-    let voice = VOICE_BITS;
-    let mut stray: u32 = 0;
-    for j in 0..20 {
-        let all = gather(m, j);
-        stray = stray | (all ^ (all & voice[j]));
+    let kept = VOICE_BITS;
+    let mut stray: [u32; 4] = [0; 4];
+    for g in 0..4 {
+        look_at_four(m, 4 * g, &kept, &mut stray);
+    }
+    look_at_last(m, &mut stray);
+    if stray[0] | stray[1] | stray[2] | stray[3] != 0 {
+        return Answer::RecordWord;
     }
     let above = ABOVE_BITS;
-    let rest = stray_bits(&m[PAGE..WORDS], &above);
-    if stray | rest != 0 {
+    if stray_bits(&m[PAGE..SUMS], &above[0..11]) != 0 {
         return Answer::RecordWord;
     }
     let vector = m[IRQV];
@@ -132,15 +140,55 @@ pub fn check(m: &[u32]) -> Answer
     Answer::RecordWord
 }
 
+// The stray bits of the voices' words j to j + 3 go into the lanes, a word to a lane.
+fn look_at_four(m: &[u32], j: usize, kept: &[u32; 20], stray: &mut [u32; 4])
+    requires { ⌜ length (now m) ≡ Words·WORDS ⌝ }
+    requires { ⌜ j + 4 ≤ 20 ⌝ }
+    requires { ⌜ now kept ≡ voiceBits ⌝ }
+    requires { ⌜ Lanes (now stray) (gatheredKept (now m) j) ⌝ }
+    ensures { λ _. ⌜ Lanes (now (stray .exit)) (gatheredKept (now (m .entry)) (j + 4)) ⌝ }
+{
+    for l in 0..4 {
+        let all = gather(m, j + l);
+        stray[l] = stray[l] | (all ^ (all & kept[j + l]));
+    }
+}
+
+// The stray bits of the voices' last four words and of the sums go into the lanes. One mask serves all four, so that no table is read.
+fn look_at_last(m: &[u32], stray: &mut [u32; 4])
+    requires { ⌜ length (now m) ≡ Words·WORDS ⌝ }
+    requires { ⌜ Lanes (now stray) (gatheredKept (now m) 16) ⌝ }
+    ensures { λ _. ⌜ Lanes (now (stray .exit)) (gatheredKept (now (m .entry)) 20 && sumsKept (now (m .entry)) 4) ⌝ }
+{
+    for l in 0..4 {
+        let all = gather_last(m, l);
+        let sums = m[SUMS + l] | m[SUMS + 4 + l] | m[SUMS + 8 + l];
+        stray[l] = stray[l] | (all ^ (all & FILTER_BITS)) | (sums ^ (sums & SUM_BITS));
+    }
+}
+
 // All bits that word j has in any voice. Its bits are kept alike in all of them, so they are held against the mask once.
 fn gather(m: &[u32], j: usize) -> u32
     requires { ⌜ length (now m) ≡ Words·WORDS ⌝ }
     requires { ⌜ j < 20 ⌝ }
-    ensures { λ r. ⌜ r ≡ gathered (now (m .entry)) j 32 ⌝ }
+    ensures { λ r. ⌜ r ≡ inVoices (now (m .entry)) j ⌝ }
 {
     let mut all: u32 = 0;
     for v in 0..32 {
         all = all | m[20 * v + j];
+    }
+    all
+}
+
+// The same of word 16 + l. A function with two callers is not put in line, so the last four words have one of their own.
+fn gather_last(m: &[u32], l: usize) -> u32
+    requires { ⌜ length (now m) ≡ Words·WORDS ⌝ }
+    requires { ⌜ l < 4 ⌝ }
+    ensures { λ r. ⌜ r ≡ inVoices (now (m .entry)) (16 + l) ⌝ }
+{
+    let mut all: u32 = 0;
+    for v in 0..32 {
+        all = all | m[20 * v + 16 + l];
     }
     all
 }

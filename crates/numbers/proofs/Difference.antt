@@ -54,7 +54,7 @@ unfolding _⊖_
     (λ n q. ⊖-eq n (suc m) (a + c) (b + d) (omega arith))
     (λ n q. sym (is-neg (a + c) (b + d) (suc (m + n)) (omega arith))))
 
-neg-pos : (n : ℕ) → negℤ (pos n) ≡ 0 ⊖ n
+pub neg-pos : (n : ℕ) → negℤ (pos n) ≡ 0 ⊖ n
 neg-pos zero = sym (is-pos 0 0 0 refl)
 neg-pos (suc n) = negsuc-⊖ n
 

@@ -1,8 +1,8 @@
 -- Choices by a test, and a rule at each number below a bound by one computed test.
 -- In order: `either`, a fact of a choice from a fact of each side; `split`, the two cases of a test, and `cases`, those of an order;
 -- `all`, a test at each number below n, which antt computes, and `all-at`, the fact at one of them; `listed`, the list of a
--- function's values, which a constant table is compared with, and `listed-at`, its entry; `alongside`, a fact of two choices from a fact of
--- the sides of each. Assumes nothing.
+-- function's values, which a constant table is compared with, and `listed-at`, its entry; `filled-on`, a list that is filled with them
+-- from its start on, one entry more; `alongside`, a fact of two choices from a fact of the sides of each. Assumes nothing.
 use mathlib.Core.Path.{_≡_, refl, sym, ap, subst, _∙_}
 use mathlib.Core.List.{List, [], _∷_}
 use mathlib.Core.Bool.{Bool, true, false, cond, false≢true}
@@ -11,7 +11,8 @@ use native.Mathlib.Nat.{not-suc-le-zero, le-of-suc-le-suc, add-zero, add-suc, su
 use native.Mathlib.Decide.{ℕ-discrete}
 use native.Mathlib.Omega.{arith}
 use lib.Dec.{T, ltb}
-use lib.ListN.{getD}
+use lib.ListN.{length, getD, set}
+use lib.Seq.{getD-set-same, getD-set-other}
 use borrow.Author.Tests.{ltb-true, ltb-false}
 
 pub either {ℓ} : {A : Type ℓ} (P : A → Type 0) (b : Bool) (x y : A) → (b ≡ true → P x) → (b ≡ false → P y) → P (cond b x y)
@@ -48,6 +49,15 @@ pub listed-at {ℓ} : {A : Type ℓ} (f : ℕ → A) (i n k : ℕ) (d : A) → k
 listed-at f i zero k d h = absurd (not-suc-le-zero h)
 listed-at f i (suc n) zero d h = ap f (sym (add-zero i))
 listed-at f i (suc n) (suc k) d h = listed-at f (suc i) n k d (le-of-suc-le-suc h) ∙ ap f (suc-add i k ∙ sym (add-suc i k))
+
+-- entries 0 to i - 1 of l are f's; with f i stored at i, so is that one
+pub filled-on {ℓ} : {A : Type ℓ} (f : ℕ → A) (d : A) (l : List A) (i : ℕ) (x : A) → i < length l → x ≡ f i
+    → ((k : ℕ) → k < i → getD l k d ≡ f k) → (k : ℕ) → k < i + 1 → getD (set l i x) k d ≡ f k
+filled-on f d l i x h e g k n = at (ℕ-discrete k i)
+  where
+    at : Dec (k ≡ i) → getD (set l i x) k d ≡ f k
+    at (yes q) = subst (λ (j : ℕ). getD (set l i x) j d ≡ f j) (sym q) (getD-set-same l i x d h ∙ e)
+    at (no q) = getD-set-other l i k x d q ∙ g k (omega arith)
 
 -- two choices by equal tests, side by side
 pub alongside {ℓ} : {A : Type ℓ} (P : A → A → Type 0) {b c : Bool} → b ≡ c → {x y x′ y′ : A} → P x x′ → P y y′ → P (cond b x y) (cond c x′ y′)

@@ -1,8 +1,10 @@
--- Words of n bits and the numbers that they stand for; a number held to limits, by its tests. Assumes nothing.
+-- Words of n bits and the numbers that they stand for; a number held to limits, by its tests; laws of division that rounds down.
+-- Assumes nothing.
 use mathlib.Core.Path.{_≡_, refl, sym, ap, subst, _∙_}
 use mathlib.Core.Bool.{true, false}
 use Prim.Native.Nat.{ℕ, zero, suc, _+_, _-_, _*_, _/_, _%_, _^_, _<_, _≤_, zero-le}
-use native.Mathlib.Nat.{le-refl, not-suc-le-zero, pow-suc, mod-lt, div-add-mod', mod-eq-of-lt, add-mod-right, mod-add-mod}
+use native.Mathlib.Nat.{le-refl, not-suc-le-zero, pow-suc, mod-lt, div-add-mod', mod-eq-of-lt, add-mod-right, mod-add-mod, mul-assoc, zero-div, mul-div-cancel}
+use native.Mathlib.Nat.{div-div-eq-div-mul}
 use native.Mathlib.Omega.{arith}
 use lib.Dec.{T, ltb}
 use lib.Pow.{pow-pos, pow-mono}
@@ -11,7 +13,7 @@ use lib.IntN.{ℤ, pos, negsuc, natAbs, _+ℤ_, _-ℤ_, _*ℤ_, +ℤ-negℤ-canc
 use lib.Signed.{ltZ, nonNeg, mag, pos-natAbs}
 use Rattle.numbers.specs.Numbers.{floorDiv, floorMod, signed, word, held, Bits, Within}
 use Rattle.numbers.proofs.Tests.{either, cases}
-use Rattle.numbers.proofs.Difference.{_⊖_, ⊖-ind, is-pos, is-neg, pos-⊖, negsuc-⊖, ⊖-add, ⊖-sub, ⊖-mul, ⊖-eq, ⊖-floor, ⊖-mod}
+use Rattle.numbers.proofs.Difference.{_⊖_, ⊖-ind, is-pos, is-neg, pos-⊖, negsuc-⊖, neg-pos, ⊖-add, ⊖-sub, ⊖-mul, ⊖-eq, ⊖-floor, ⊖-mod}
 
 -- ---- a power of two below 2 ^ 32
 
@@ -141,6 +143,22 @@ floor-law (negsuc a) m h =
           ∙ ⊖-eq (m * 0 + ((m - 1) - a % m)) (m * suc (a / m) + 0) 0 (suc a) (omega arith)),
       omega arith,
     )
+
+-- two divisions are one by the product; and a factor that the number and the divisor share falls out
+pub floor-floor : (z : ℤ) (m n : ℕ) → floorDiv (floorDiv z m) n ≡ floorDiv z (m * n)
+unfolding floorDiv
+floor-floor (pos a) m n = ap pos (div-div-eq-div-mul a m n)
+floor-floor (negsuc a) m n = ap negsuc (div-div-eq-div-mul a m n)
+
+floor-multiple : (z : ℤ) (n k : ℕ) → 0 < k → floorDiv (z *ℤ pos (n * k)) k ≡ z *ℤ pos n
+unfolding floorDiv
+floor-multiple (pos a) n k h = ap pos (ap (λ (x : ℕ). x / k) (sym (mul-assoc a n k)) ∙ mul-div-cancel (a * n) h)
+floor-multiple (negsuc a) n k h =
+    ap (λ (z : ℤ). floorDiv z k) (neg-pos (suc a * (n * k)) ∙ ap (λ (x : ℕ). 0 ⊖ x) (sym (mul-assoc (suc a) n k)))
+    ∙ ⊖-floor 0 (suc a * n) k h ∙ ap (λ (x : ℕ). x ⊖ (suc a * n)) (zero-div k) ∙ sym (neg-pos (suc a * n))
+
+pub floor-shared : (z : ℤ) (n k m : ℕ) → 0 < k → floorDiv (z *ℤ pos (n * k)) (k * m) ≡ floorDiv (z *ℤ pos n) m
+floor-shared z n k m h = sym (floor-floor (z *ℤ pos (n * k)) k m) ∙ ap (λ (y : ℤ). floorDiv y m) (floor-multiple z n k h)
 
 -- a word's number by the word moved up by half the range
 pub signed-bias : (n w : ℕ) → 0 < n → w < 2 ^ n → signed n w ≡ ((w + 2 ^ (n - 1)) % 2 ^ n) ⊖ 2 ^ (n - 1)

@@ -22,7 +22,7 @@ use Rattle.machine.specs.Calls.{sized, checked, resetWord, wordsFrom, fresh}
 use Rattle.registers.specs.Registers.{registerOf, lowPage, highPage, sumPage, withByte, stored, written, readAs, acknowledged, touched, opened}
 use Rattle.registers.specs.Calls.{byteAnswer, writeRecord, readRecord}
 use Rattle.voice.specs.Turn.{levels, withOutputs, moved, sampled, stoppedTurn, runningTurn, turnOf, outputs as lastOutputs}
-use Rattle.frame.specs.Voices.{wordsOf}
+use Rattle.voice.specs.Voice.{wordsOf}
 use Rattle.frame.specs.Frame.{summed, added, signalled, turned, turnAt, turns, heard, silenced, closed, played, frameAnswer, frameRecord, frameOutput}
 use Rattle.calls.specs.Calls.{Call, Write, Read, Frame, after, outputFrom, run, outputs}
 use Rattle.renumber.proofs.Example.{note, machine, one, other}

@@ -12,9 +12,8 @@ use lib.ListN.{length, getD, set}
 use lib.Seq.{getD-set-same, getD-set-other}
 use Rattle.control.specs.Control.{bitOf}
 use Rattle.control.proofs.Agree.{channel-agrees}
-use Rattle.voice.specs.declared.Voice.{Voice}
+use Rattle.voice.specs.Voice.{Voice, voiceOf, wordsOf}
 use Rattle.voice.proofs.Flag.{besideCR, ButFlag, same-turn}
-use Rattle.frame.specs.Voices.{voiceOf, wordsOf}
 use Rattle.frame.proofs.Turns.{wordsAfter, portion, share}
 use Rattle.renumber.specs.Demand.{SameVoice}
 

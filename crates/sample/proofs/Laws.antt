@@ -1,9 +1,9 @@
--- What stands between two samples of 16 bits has 18. Then what a word stands for, by the bit that says how; and that no other bit matters
--- to a fetch, but those of the bank. Assumes nothing.
+-- What stands between two samples of 16 bits has 18. Then what a word stands for, by the bit that says how; that no other bit matters
+-- to a fetch, but those of the bank; and a word below the last of its bank that is lent. Assumes nothing.
 use mathlib.Core.Path.{_≡_, sym, ap, subst, _∙_}
 use mathlib.Core.Bool.{true, false}
 use mathlib.Core.List.{List}
-use Prim.Native.Nat.{ℕ, _+_, _-_, _*_, _/_, _<_, _≤_}
+use Prim.Native.Nat.{ℕ, _+_, _-_, _*_, _/_, _%_, _<_, _≤_}
 use native.Mathlib.Nat.{mul-le-mul-left, mul-le-mul-right, le-of-lt}
 use native.Mathlib.Omega.{arith}
 use lib.Dec.{lit<}
@@ -14,6 +14,7 @@ use Rattle.numbers.proofs.Words.{biased, bits-⊖, floor-up}
 use Rattle.codes.specs.Codes.{valueOf}
 use Rattle.control.specs.Control.{flagOf, bankOf, CMPD}
 use Rattle.sample.specs.Sample.{firstAt, secondAt, sampleOf, fetched, between}
+use Rattle.sample.specs.Lasts.{lastOf}
 
 pub between-bits : (f : ℕ) (x y : ℤ) → f < 512 → Bits 16 x → Bits 16 y → Bits 18 (between f x y)
 unfolding between
@@ -47,3 +48,9 @@ linear-word CR w t = rw t
 pub fetched-bank : (memory : List ℕ) (c d ACCUM : ℕ) → flagOf CMPD c ≡ flagOf CMPD d → bankOf c ≡ bankOf d → fetched memory c ACCUM ≡ fetched memory d ACCUM
 unfolding fetched sampleOf firstAt secondAt
 fetched-bank memory c d ACCUM e f = rw (e, f)
+
+-- below the last word of the bank, the next word is the next in memory, and is lent
+pub below-last : (n b i : ℕ) {at next last : ℕ} → i < 2097152 → at ≡ b * 2097152 + i → next ≡ b * 2097152 + (i + 1) % 2097152 → last ≡ lastOf n b
+    → at < last → (next ≡ at + 1) × (next < n)
+unfolding lastOf
+below-last n b i h e f g k = (omega arith, omega arith)

@@ -1,9 +1,17 @@
 // The sample of a voice: the two words that it fetches from sample memory, what they stand for, and the value between them.
 ghost use mathlib.Core.Path.{_≡_};
-ghost use Prim.Native.Nat.{_<_, _≤_};
+ghost use Prim.Native.Nat.{_+_, _*_, _<_, _≤_};
+ghost use lib.ListN.{length};
 ghost use Rattle.numbers.specs.Numbers.{Bits};
 ghost use Rattle.codes.specs.Codes.{Expands};
 ghost use Rattle.sample.specs.Sample.{wordAt, sampleOf, fetched, fraction, between};
+ghost use Rattle.sample.specs.Lasts.{lastOf, Lasts};
+
+// The two words of a fetch.
+struct Words {
+    first: u16,
+    second: u16,
+}
 
 // The two samples of a fetch.
 pub struct Samples {
@@ -12,26 +20,67 @@ pub struct Samples {
 }
 
 // The value between the two samples that the voice is at, of 18 bits.
-pub fn interpolate(memory: &[u16], table: &[i16; 256], cr: u32, accum: u32) -> i32
+pub fn interpolate(
+    memory: &[u16],
+    lasts: &[usize; 4],
+    table: &[i16; 256],
+    cr: u32,
+    accum: u32,
+) -> i32
+    requires { ⌜ Lasts (length (now memory)) (now lasts) ⌝ }
     requires { ⌜ Expands (now table) ⌝ }
+    requires { ⌜ cr < 65536 ⌝ }
     ensures { λ r. ⌜ (r ≡ between (fraction accum) (fetched (now (memory .entry)) cr accum .first) (fetched (now (memory .entry)) cr accum .second)) × Bits 18 r ⌝ }
 {
-    let s = fetch(memory, table, cr, accum);
+    let s = fetch(memory, lasts, table, cr, accum);
     blend(accum % 2048 / 4, s.first, s.second)
 }
 
 // The two samples that the voice is at.
-pub fn fetch(memory: &[u16], table: &[i16; 256], cr: u32, accum: u32) -> Samples
+pub fn fetch(memory: &[u16], lasts: &[usize; 4], table: &[i16; 256], cr: u32, accum: u32) -> Samples
+    requires { ⌜ Lasts (length (now memory)) (now lasts) ⌝ }
     requires { ⌜ Expands (now table) ⌝ }
+    requires { ⌜ cr < 65536 ⌝ }
     ensures { λ r. ⌜ (r ≡ fetched (now (memory .entry)) cr accum) × (Bits 16 (r .first) × Bits 16 (r .second)) ⌝ }
 {
-    let bank = control::bank(cr) * 2097152;
+    let bank = control::bank(cr);
     let i = accum / 2048;
-    let a = word(memory, (bank + i) as usize);
-    let b = word(memory, (bank + (i + 1) % 2097152) as usize);
+    let b = bank as usize;
+    let w = words_at(
+        memory,
+        lasts[b],
+        place(bank, i),
+        place(bank, (i + 1) % 2097152),
+    );
     Samples {
-        first: sample(table, cr, a),
-        second: sample(table, cr, b),
+        first: sample(table, cr, w.first),
+        second: sample(table, cr, w.second),
+    }
+}
+
+// The word of the memory that is word i of a bank.
+fn place(bank: u32, i: u32) -> usize
+    requires { ⌜ bank < 4 ⌝ }
+    requires { ⌜ i < 2097152 ⌝ }
+    ensures { λ r. ⌜ r ≡ bank * 2097152 + i ⌝ }
+{
+    (bank * 2097152 + i) as usize
+}
+
+// The words at two places. Below the bank's last word the second is the next, and both are lent: one test for all three.
+fn words_at(memory: &[u16], last: usize, at: usize, next: usize) -> Words
+    requires { ⌜ (at < last → (next ≡ at + 1) × (next < length (now memory))) ⌝ }
+    ensures { λ r. ⌜ (r .first ≡ wordAt (now (memory .entry)) at) × (r .second ≡ wordAt (now (memory .entry)) next) ⌝ }
+{
+    if at < last {
+        return Words {
+            first: memory[at],
+            second: memory[at + 1],
+        };
+    }
+    Words {
+        first: word(memory, at),
+        second: word(memory, next),
     }
 }
 
@@ -54,12 +103,37 @@ fn sample(table: &[i16; 256], cr: u32, w: u16) -> i32
     }
 }
 
-// The value between two samples, f of 512 parts on from the first.
+// The value between two samples, f of 512 parts on from the first. ACCUM has f times 4, so the compiler takes that as it stands there.
 fn blend(f: u32, s1: i32, s2: i32) -> i32
     requires { ⌜ f < 512 ⌝ }
     requires { ⌜ Bits 16 s1 ⌝ }
     requires { ⌜ Bits 16 s2 ⌝ }
     ensures { λ r. ⌜ (r ≡ between f s1 s2) × Bits 18 r ⌝ }
 {
-    4 * s1 + ((f as i32 * (s2 - s1)) >> 7)
+    4 * s1 + ((4 * f as i32 * (s2 - s1)) >> 9)
+}
+
+// The last word of each bank that is lent: made once for all fetches from a memory of n words.
+pub fn lasts(n: usize) -> [usize; 4]
+    ensures { λ r. ⌜ Lasts n r ⌝ }
+{
+    let mut l: [usize; 4] = [0; 4];
+    for b in 0..4 {
+        l[b] = last(n, b);
+    }
+    l
+}
+
+fn last(n: usize, b: usize) -> usize
+    requires { ⌜ b < 4 ⌝ }
+    ensures { λ r. ⌜ r ≡ lastOf n b ⌝ }
+{
+    let to = 2097152 * (b + 1);
+    if n == 0 {
+        0
+    } else if n < to {
+        n - 1
+    } else {
+        to - 1
+    }
 }

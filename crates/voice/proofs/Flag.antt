@@ -17,8 +17,7 @@ use Rattle.filter.proofs.Laws.{filtered-passes}
 use Rattle.volume.specs.Volume.{panned}
 use Rattle.address.specs.Address.{stepped}
 use Rattle.address.proofs.Agree.{SamePlace, stepped-agrees}
-use Rattle.voice.specs.declared.Voice.{Voice}
-use Rattle.voice.specs.declared.Turn.{Turn}
+use Rattle.voice.specs.Voice.{Voice, Turn}
 use Rattle.voice.specs.Turn.{outputs, levels, withOutputs, moved, sampled, stoppedTurn, runningTurn, turnOf}
 
 -- ---- voices that differ in the interrupt flag alone

@@ -15,7 +15,7 @@ use Rattle.filter.specs.declared.Poles.{Poles}
 use Rattle.address.specs.Address.{stepped}
 use Rattle.address.proofs.Range.{stepped-small}
 use Rattle.ramp.specs.Ramp.{ramped, slowRamped}
-use Rattle.voice.specs.declared.Voice.{Voice}
+use Rattle.voice.specs.Voice.{Voice}
 use Rattle.voice.specs.Turn.{outputs, levels, withOutputs, moved, sampled, stoppedTurn, runningTurn, turnOf}
 use Rattle.voice.specs.Ranges.{Ranges, Leveled}
 use Rattle.voice.proofs.Laws.{with-outputs-ranges, moved-ranges, turn-runs, turn-stands}

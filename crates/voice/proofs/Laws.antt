@@ -9,8 +9,7 @@ use Rattle.control.specs.Control.{runs}
 use Rattle.filter.specs.declared.Poles.{Poles}
 use Rattle.address.specs.declared.Place.{Place}
 use Rattle.ramp.specs.Ramp.{ramped, slowRamped}
-use Rattle.voice.specs.declared.Voice.{Voice}
-use Rattle.voice.specs.declared.Levels.{Levels}
+use Rattle.voice.specs.Voice.{Voice, Levels}
 use Rattle.voice.specs.Turn.{levels, withOutputs, moved, stoppedTurn, runningTurn, turnOf}
 use Rattle.voice.specs.Ranges.{Ranges, Leveled}
 

@@ -7,32 +7,27 @@ use mathlib.Core.Logic.{_≢_}
 use mathlib.Core.Bool.{true, false}
 use mathlib.Core.List.{List, []}
 use Prim.Native.Nat.{ℕ, zero, suc, _+_, _-_, _*_, _/_, _%_, _<_, _≤_}
-use native.Mathlib.Nat.{mod-eq-of-lt, mod-add-mod, add-mul-mod-self-right}
+use native.Mathlib.Nat.{mod-add-mod, add-mul-mod-self-right}
 use native.Mathlib.Omega.{arith}
-use borrow.Author.Tests.{lt-ltb, le-ltb, le-leb, lt-leb}
+use borrow.Author.Tests.{lt-ltb, lt-leb}
 use lib.Dec.{eqb}
 use lib.IntN.{ℤ, pos, _-ℤ_}
 use lib.Signed.{ltZ}
 use Rattle.numbers.specs.Numbers.{floorMod, word}
 use Rattle.numbers.proofs.Tests.{split, cases}
-use Rattle.numbers.proofs.Difference.{is-pos, pos-⊖, ⊖-sub, ⊖-lt}
+use Rattle.numbers.proofs.Difference.{is-pos, pos-⊖, ⊖-sub}
 use Rattle.numbers.proofs.Words.{pos-sub}
 use Rattle.control.specs.Control.{bitOf, flagOf, withBit, runs, STP0, STP1, LEI, LPE, BLE, IRQE, DIR, IRQ}
 use Rattle.control.proofs.Bits.{flag-put, flag-other}
 use Rattle.address.specs.Address.{raised, event, forward, stepped}
 use Rattle.address.specs.declared.Place.{Place}
-use Rattle.address.proofs.Laws.{raised-on, raised-off, turns, goes-on, forward-within, forward-event, reverse-within, reverse-event, steps-back, steps-on, same-place}
-use Rattle.voice.specs.declared.Voice.{Voice}
-use Rattle.voice.specs.declared.Turn.{Turn}
+use Rattle.address.proofs.Laws.{raised-on, raised-off, turns, goes-on, forward-event, reverse-event, steps-back, steps-on, same-place, stored, back-test, on-within, back-within}
+use Rattle.voice.specs.Voice.{Voice, Turn}
 use Rattle.voice.specs.Turn.{withOutputs, moved, runningTurn, turnOf}
 use Rattle.voice.specs.Tune.{turnsOf, Kind, Forward, Reverse, Bidirectional, Mode, positionOf, periodOf, Loops, InTune}
 use Rattle.voice.proofs.Laws.{turn-runs}
 
 -- ---- the address step in natural numbers
-
-stored : (a : ℕ) → a < 4294967296 → word 32 (pos a) ≡ a
-unfolding word floorMod
-stored a h = mod-eq-of-lt h
 
 less : (a b n : ℕ) → a ≡ b + n → pos a -ℤ pos b ≡ pos n
 less a b n h = pos-sub a b ∙ is-pos a b n h
@@ -50,9 +45,7 @@ under v = v .start + v .fc - v .accum
 
 module _ {k : Kind} {v : Voice} (l : Loops k v) where
   on : flagOf DIR (v .cr) ≡ false → v .accum + v .fc ≤ v .end → next v ≡ record { accum = v .accum + v .fc; cr = v .cr }
-  on t h =
-      steps-on (v .cr) (v .fc) (v .start) (v .end) (v .accum) t ∙ forward-within (v .cr) (v .fc) (v .start) (v .end) (v .accum) (le-leb (v .accum + v .fc) (v .end) h)
-      ∙ same-place (stored (v .accum + v .fc) (omega arith)) refl
+  on t h = on-within (v .cr) (v .fc) (v .start) (v .end) (v .accum) t h (l .address)
 
   on-past : flagOf DIR (v .cr) ≡ false → v .end < v .accum + v .fc → next v ≡ event (v .cr) (v .end) (pos (v .start + over v)) (pos (v .end - over v)) 1
   on-past t h =
@@ -61,16 +54,11 @@ module _ {k : Kind} {v : Voice} (l : Loops k v) where
       ∙ rw (less (v .accum + v .fc) (v .end) (over v) (omega arith), less (v .end) (over v) (v .end - over v) (omega arith))
 
   back : flagOf DIR (v .cr) ≡ true → v .start + v .fc ≤ v .accum → next v ≡ record { accum = v .accum - v .fc; cr = v .cr }
-  back t h =
-      let e : pos (v .accum) -ℤ pos (v .fc) ≡ pos (v .accum - v .fc) = less (v .accum) (v .fc) (v .accum - v .fc) (omega arith) in
-      steps-back (v .cr) (v .fc) (v .start) (v .end) (v .accum) t
-      ∙ reverse-within (v .cr) (v .fc) (v .start) (v .end) (v .accum) (ap (λ (z : ℤ). ltZ z (pos (v .start))) e ∙ le-ltb (v .accum - v .fc) (v .start) (omega arith))
-      ∙ same-place (ap (word 32) e ∙ stored (v .accum - v .fc) (omega arith)) refl
+  back t h = back-within (v .cr) (v .fc) (v .start) (v .end) (v .accum) t h (omega arith)
 
   back-past : flagOf DIR (v .cr) ≡ true → v .accum < v .start + v .fc → next v ≡ event (v .cr) (v .start) (pos (v .end - under v)) (pos (v .start + under v)) 0
   back-past t h =
-      let past : ltZ (pos (v .accum) -ℤ pos (v .fc)) (pos (v .start)) ≡ true =
-      (λ i. ltZ (pos-sub (v .accum) (v .fc) i) (pos-⊖ (v .start) i)) ∙ ⊖-lt (v .accum) (v .fc) (v .start) 0 ∙ lt-ltb (v .accum + 0) (v .start + v .fc) (omega arith) in
+      let past : ltZ (pos (v .accum) -ℤ pos (v .fc)) (pos (v .start)) ≡ true = back-test (v .fc) (v .start) (v .accum) ∙ lt-ltb (v .accum) (v .start + v .fc) h in
       let e : pos (v .start) -ℤ (pos (v .accum) -ℤ pos (v .fc)) ≡ pos (under v) =
       (λ i. pos-⊖ (v .start) i -ℤ pos-sub (v .accum) (v .fc) i) ∙ ⊖-sub (v .start) 0 (v .accum) (v .fc)
       ∙ is-pos (v .start + v .fc) (0 + v .accum) (under v) (omega arith) in

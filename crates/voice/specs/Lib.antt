@@ -1,3 +1,5 @@
+pub mod Voice
 pub mod Turn
 pub mod Ranges
 pub mod Tune
+pub mod Takes

@@ -1,8 +1,7 @@
 -- The ranges of a voice's registers, which a turn asks of the registers before it and promises of those after. A register that no turn
 -- changes and that every value suits is not named. Assumes nothing.
 use Prim.Native.Nat.{_<_}
-use Rattle.voice.specs.declared.Voice.{Voice}
-use Rattle.voice.specs.declared.Levels.{Levels}
+use Rattle.voice.specs.Voice.{Voice, Levels}
 
 pub record Ranges (v : Voice) : Type 0 where
   pub cr : v .cr < 65536

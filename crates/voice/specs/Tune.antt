@@ -7,7 +7,7 @@ use mathlib.Core.Logic.{_≢_}
 use mathlib.Core.Bool.{true, false, cond}
 use mathlib.Core.List.{List}
 use Rattle.control.specs.Control.{flagOf, runs, LEI, LPE, BLE, DIR, IRQ}
-use Rattle.voice.specs.declared.Voice.{Voice}
+use Rattle.voice.specs.Voice.{Voice}
 use Rattle.voice.specs.Turn.{turnOf}
 
 -- n turns. The host may change the sample memory between them, so turn k has a memory of its own, and a slow-ramp counter.

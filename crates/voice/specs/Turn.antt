@@ -17,9 +17,7 @@ use Rattle.volume.specs.Volume.{panned}
 use Rattle.address.specs.Address.{stepped}
 use Rattle.address.specs.declared.Place.{Place}
 use Rattle.ramp.specs.Ramp.{ramped, slowRamped}
-use Rattle.voice.specs.declared.Voice.{Voice}
-use Rattle.voice.specs.declared.Levels.{Levels}
-use Rattle.voice.specs.declared.Turn.{Turn}
+use Rattle.voice.specs.Voice.{Voice, Levels, Turn}
 
 -- the last outputs of the poles: the (n-1) words, signed 18 bits
 unfoldable pub outputs : Voice → Poles

@@ -1,164 +1,205 @@
-// One turn of a voice, held by value: sample, filters, volume, address and ramps, as the control register says.
-// The turn does not know the voice's number, so which voice plays cannot be heard in it.
+// One turn of a voice on its own twenty words, which are lent as a part of the record: sample, filters, volume, address and ramps, as the
+// control register says. The turn does not know the voice's number, so which voice plays cannot be heard in it.
+// No word is stored that the turn leaves as it is, and no copy of the voice is made.
 ghost use mathlib.Core.Path.{_≡_};
+ghost use mathlib.Core.Bool.{cond};
 ghost use Prim.Native.Nat.{_<_};
-ghost use Rattle.numbers.specs.Numbers.{Within};
+ghost use lib.IntN.{pos};
+ghost use lib.ListN.{length, getD};
+ghost use Rattle.numbers.specs.Numbers.{Bits};
 ghost use Rattle.codes.specs.Codes.{Expands};
+ghost use Rattle.control.specs.Control.{runs};
 ghost use Rattle.filter.specs.Outputs.{Outputs};
-ghost use Rattle.voice.specs.Turn.{turnOf, runningTurn, stoppedTurn, withOutputs, moved};
-ghost use Rattle.voice.specs.Turn.{outputs as Turn·outputs, levels};
+ghost use Rattle.sample.specs.Lasts.{Lasts};
+ghost use Rattle.voice.specs.Voice.{voiceOf};
+ghost use Rattle.voice.specs.Turn.{sampled, outputs as Turn·outputs};
 ghost use Rattle.voice.specs.Ranges.{Ranges, Leveled};
-use address::Place;
+ghost use Rattle.voice.specs.Takes.{levelsOf, afterStep, afterRamps, Passes, TakesTurn};
 use filter::Poles;
 
-// The twenty registers, in the order of the record's words.
-pub struct Voice {
-    pub cr: u32,
-    pub fc: u32,
-    pub lvol: u32,
-    pub lvramp: u32,
-    pub rvol: u32,
-    pub rvramp: u32,
-    pub ecount: u32,
-    pub k2: u32,
-    pub k2ramp: u32,
-    pub k1: u32,
-    pub k1ramp: u32,
-    pub start: u32,
-    pub end: u32,
-    pub accum: u32,
-    pub o4n1: u32,
-    pub o3n1: u32,
-    pub o3n2: u32,
-    pub o2n1: u32,
-    pub o2n2: u32,
-    pub o1n1: u32,
-}
+// The words of a voice.
+pub const CR: usize = 0;
 
-// What ramps move.
-pub struct Levels {
-    pub ecount: u32,
-    pub lvol: u32,
-    pub rvol: u32,
-    pub k1: u32,
-    pub k2: u32,
-}
+pub const FC: usize = 1;
 
-// The registers after a turn, and what the voice adds to the left and right sums of its channel.
-pub struct Turn {
-    pub voice: Voice,
+pub const LVOL: usize = 2;
+
+pub const LVRAMP: usize = 3;
+
+pub const RVOL: usize = 4;
+
+pub const RVRAMP: usize = 5;
+
+pub const ECOUNT: usize = 6;
+
+pub const K2: usize = 7;
+
+pub const K2RAMP: usize = 8;
+
+pub const K1: usize = 9;
+
+pub const K1RAMP: usize = 10;
+
+pub const START: usize = 11;
+
+pub const END: usize = 12;
+
+pub const ACCUM: usize = 13;
+
+pub const O4N1: usize = 14;
+
+pub const O3N1: usize = 15;
+
+pub const O3N2: usize = 16;
+
+pub const O2N1: usize = 17;
+
+pub const O2N2: usize = 18;
+
+pub const O1N1: usize = 19;
+
+// What a turn adds to the left and right sums of a channel.
+pub struct Addend {
+    pub channel: u32,
     pub left: i32,
     pub right: i32,
 }
 
-// A turn of the voice v, at the slow-ramp counter slow, over the lent sample memory and the table of codes.
-pub fn take_turn(v: Voice, slow: u32, memory: &[u16], table: &[i16; 256]) -> Turn
-    requires { ⌜ Ranges v ⌝ }
+// A turn of the voice whose words are w, at the slow-ramp counter slow, over the lent sample memory and the table of codes.
+pub fn turn(
+    w: &mut [u32],
+    slow: u32,
+    memory: &[u16],
+    lasts: &[usize; 4],
+    table: &[i16; 256],
+) -> Addend
+    requires { ⌜ length (now w) ≡ 20 ⌝ }
+    requires { ⌜ Ranges (voiceOf (now w)) ⌝ }
+    requires { ⌜ Lasts (length (now memory)) (now lasts) ⌝ }
     requires { ⌜ Expands (now table) ⌝ }
-    ensures { λ r. ⌜ (r ≡ turnOf (now (memory .entry)) slow v) × (Ranges (r .voice) × (Within 1048576 (r .left) × Within 1048576 (r .right))) ⌝ }
+    ensures { λ r. ⌜ TakesTurn (now (memory .entry)) slow (now (w .entry)) (now (w .exit)) r ⌝ }
 {
-    if control::running(v.cr) {
-        run(v, slow, memory, table)
-    } else {
-        stand(v)
+    let cr = w[CR];
+    let x = input(w, cr, memory, lasts, table);
+    let o4 = pass(w, cr, x);
+    if control::running(cr) {
+        let left = volume::pan(w[LVOL], o4);
+        let right = volume::pan(w[RVOL], o4);
+        step(w, cr);
+        ramps(w, slow);
+        return Addend {
+            channel: control::channel(cr),
+            left: left,
+            right: right,
+        };
     }
-}
-
-// The turn of a running voice.
-fn run(v: Voice, slow: u32, memory: &[u16], table: &[i16; 256]) -> Turn
-    requires { ⌜ Ranges v ⌝ }
-    requires { ⌜ Expands (now table) ⌝ }
-    ensures { λ r. ⌜ (r ≡ runningTurn (now (memory .entry)) slow v) × (Ranges (r .voice) × (Within 1048576 (r .left) × Within 1048576 (r .right))) ⌝ }
-{
-    let x = sample::interpolate(memory, table, v.cr, v.accum);
-    let p = filter::filter(v.cr, v.k1, v.k2, x, outputs(v));
-    let a = address::step(v.cr, v.fc, v.start, v.end, v.accum);
-    let l = ramp_all(v, slow);
-    let left = volume::pan(v.lvol, p.o4);
-    let right = volume::pan(v.rvol, p.o4);
-    Turn {
-        voice: move_on(with_outputs(v, p), a, l),
-        left: left,
-        right: right,
-    }
-}
-
-// The turn of a stopped voice.
-fn stand(v: Voice) -> Turn
-    requires { ⌜ Ranges v ⌝ }
-    ensures { λ r. ⌜ (r ≡ stoppedTurn v) × (Ranges (r .voice) × (Within 1048576 (r .left) × Within 1048576 (r .right))) ⌝ }
-{
-    let p = filter::filter(v.cr, v.k1, v.k2, 0, outputs(v));
-    Turn {
-        voice: with_outputs(v, p),
+    Addend {
+        channel: 7,
         left: 0,
         right: 0,
     }
 }
 
+// What goes into the filters: the sample that the voice is at, or 0 where it is stopped.
+fn input(w: &[u32], cr: u32, memory: &[u16], lasts: &[usize; 4], table: &[i16; 256]) -> i32
+    requires { ⌜ length (now w) ≡ 20 ⌝ }
+    requires { ⌜ (cr ≡ getD (now w) 0 0) × (cr < 65536) ⌝ }
+    requires { ⌜ Lasts (length (now memory)) (now lasts) ⌝ }
+    requires { ⌜ Expands (now table) ⌝ }
+    ensures { λ r. ⌜ (r ≡ cond (runs cr) (sampled (now (memory .entry)) (voiceOf (now (w .entry)))) (pos 0)) × Bits 18 r ⌝ }
+{
+    if control::running(cr) {
+        sample::interpolate(memory, lasts, table, cr, w[ACCUM])
+    } else {
+        0
+    }
+}
+
+// The sample x passes the filters; the new output of pole 4. The old outputs move back first, so that no copy of them is kept.
+fn pass(w: &mut [u32], cr: u32, x: i32) -> i32
+    requires { ⌜ length (now w) ≡ 20 ⌝ }
+    requires { ⌜ Ranges (voiceOf (now w)) ⌝ }
+    requires { ⌜ cr ≡ getD (now w) 0 0 ⌝ }
+    requires { ⌜ Bits 18 x ⌝ }
+    ensures { λ r. ⌜ Passes x (now (w .entry)) (now (w .exit)) r ⌝ }
+{
+    w[O2N2] = w[O2N1];
+    w[O3N2] = w[O3N1];
+    let p = filter::filter(cr, w[K1], w[K2], x, outputs(w));
+    w[O1N1] = numbers::word_of(18, p.o1);
+    w[O2N1] = numbers::word_of(18, p.o2);
+    w[O3N1] = numbers::word_of(18, p.o3);
+    w[O4N1] = numbers::word_of(18, p.o4);
+    p.o4
+}
+
 // The last outputs of the poles.
-fn outputs(v: Voice) -> Poles
-    requires { ⌜ Ranges v ⌝ }
-    ensures { λ r. ⌜ (r ≡ Turn·outputs v) × Outputs r ⌝ }
+fn outputs(w: &[u32]) -> Poles
+    requires { ⌜ length (now w) ≡ 20 ⌝ }
+    requires { ⌜ Ranges (voiceOf (now w)) ⌝ }
+    ensures { λ r. ⌜ (r ≡ Turn·outputs (voiceOf (now (w .entry)))) × Outputs r ⌝ }
 {
     Poles {
-        o1: numbers::number_of(18, v.o1n1),
-        o2: numbers::number_of(18, v.o2n1),
-        o3: numbers::number_of(18, v.o3n1),
-        o4: numbers::number_of(18, v.o4n1),
+        o1: numbers::number_of(18, w[O1N1]),
+        o2: numbers::number_of(18, w[O2N1]),
+        o3: numbers::number_of(18, w[O3N1]),
+        o4: numbers::number_of(18, w[O4N1]),
     }
 }
 
-// The voice with new outputs.
-fn with_outputs(v: Voice, p: Poles) -> Voice
-    requires { ⌜ Ranges v ⌝ }
-    requires { ⌜ Outputs p ⌝ }
-    ensures { λ r. ⌜ (r ≡ withOutputs v p) × Ranges r ⌝ }
+// ACCUM goes on. Where it stays within the loop points nothing else changes, whatever the loop mode.
+fn step(w: &mut [u32], cr: u32)
+    requires { ⌜ length (now w) ≡ 20 ⌝ }
+    requires { ⌜ (cr ≡ getD (now w) 0 0) × (cr < 65536) ⌝ }
+    ensures { λ _. ⌜ now (w .exit) ≡ afterStep (now (w .entry)) ⌝ }
 {
-    let mut w = v;
-    w.o4n1 = numbers::word_of(18, p.o4);
-    w.o3n1 = numbers::word_of(18, p.o3);
-    w.o3n2 = v.o3n1;
-    w.o2n1 = numbers::word_of(18, p.o2);
-    w.o2n2 = v.o2n1;
-    w.o1n1 = numbers::word_of(18, p.o1);
-    w
-}
-
-// The voice at a new place, with new levels.
-fn move_on(v: Voice, a: Place, l: Levels) -> Voice
-    ensures { λ r. ⌜ r ≡ moved v a l ⌝ }
-{
-    let mut w = v;
-    w.cr = a.cr;
-    w.accum = a.accum;
-    w.ecount = l.ecount;
-    w.lvol = l.lvol;
-    w.rvol = l.rvol;
-    w.k1 = l.k1;
-    w.k2 = l.k2;
-    w
-}
-
-// The levels after the ramps.
-fn ramp_all(v: Voice, slow: u32) -> Levels
-    requires { ⌜ Ranges v ⌝ }
-    ensures { λ r. ⌜ (r ≡ levels slow v) × Leveled r ⌝ }
-{
-    if v.ecount == 0 {
-        return Levels {
-            ecount: v.ecount,
-            lvol: v.lvol,
-            rvol: v.rvol,
-            k1: v.k1,
-            k2: v.k2,
-        };
+    let fc = w[FC];
+    let accum = w[ACCUM];
+    if control::flag(control::DIR, cr) {
+        let t = accum as i64 - fc as i64;
+        if t < w[START] as i64 {
+            event(w, cr, fc, accum);
+        } else {
+            w[ACCUM] = t as u32;
+        }
+    } else {
+        let t = accum as u64 + fc as u64;
+        if t <= w[END] as u64 {
+            w[ACCUM] = t as u32;
+        } else {
+            event(w, cr, fc, accum);
+        }
     }
-    Levels {
-        ecount: v.ecount - 1,
-        lvol: ramp::ramp(v.lvol, v.lvramp),
-        rvol: ramp::ramp(v.rvol, v.rvramp),
-        k1: ramp::slow_ramp(slow, v.k1, v.k1ramp),
-        k2: ramp::slow_ramp(slow, v.k2, v.k2ramp),
+}
+
+// The step of a voice that would pass a loop point, or heeds none.
+fn event(w: &mut [u32], cr: u32, fc: u32, accum: u32)
+    requires { ⌜ length (now w) ≡ 20 ⌝ }
+    requires { ⌜ (cr ≡ getD (now w) 0 0) × (cr < 65536) ⌝ }
+    requires { ⌜ (fc ≡ getD (now w) 1 0) × (accum ≡ getD (now w) 13 0) ⌝ }
+    ensures { λ _. ⌜ now (w .exit) ≡ afterStep (now (w .entry)) ⌝ }
+{
+    let p = address::step(cr, fc, w[START], w[END], accum);
+    w[CR] = p.cr;
+    w[ACCUM] = p.accum;
+}
+
+// The ramps move their levels while ECOUNT is not 0.
+fn ramps(w: &mut [u32], slow: u32)
+    requires { ⌜ length (now w) ≡ 20 ⌝ }
+    requires { ⌜ Leveled (levelsOf (voiceOf (now w))) ⌝ }
+    ensures { λ _. ⌜ now (w .exit) ≡ afterRamps slow (now (w .entry)) ⌝ }
+{
+    let n = w[ECOUNT];
+    if n != 0 {
+        let lvol = ramp::ramp(w[LVOL], w[LVRAMP]);
+        let rvol = ramp::ramp(w[RVOL], w[RVRAMP]);
+        let k1 = ramp::slow_ramp(slow, w[K1], w[K1RAMP]);
+        let k2 = ramp::slow_ramp(slow, w[K2], w[K2RAMP]);
+        w[ECOUNT] = n - 1;
+        w[LVOL] = lvol;
+        w[RVOL] = rvol;
+        w[K1] = k1;
+        w[K2] = k2;
     }
 }

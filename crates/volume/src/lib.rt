@@ -4,12 +4,13 @@ ghost use Prim.Native.Nat.{_<_};
 ghost use Rattle.numbers.specs.Numbers.{Bits, Within};
 ghost use Rattle.volume.specs.Volume.{panned};
 
-// What pole 4's output o4 comes to at the volume.
+// What pole 4's output o4 comes to at the volume. The exponent moves the mantissa to the left, so one shift by a constant stands for the
+// rule's two divisions.
 pub fn pan(volume: u32, o4: i32) -> i32
     requires { ⌜ volume < 65536 ⌝ }
     requires { ⌜ Bits 18 o4 ⌝ }
     ensures { λ r. ⌜ (r ≡ panned volume o4) × Within 1048576 r ⌝ }
 {
-    let mantissa = 256 + volume / 16 % 256;
-    (((o4 >> 2) * mantissa as i32) >> 5) >> (15 - volume / 4096)
+    let gain = (16 * (256 + volume / 16 % 256)) << (volume / 4096);
+    (((o4 >> 2) as i64 * gain as i64) >> 24) as i32
 }

@@ -1,11 +1,12 @@
--- `frame::close` meets its contract: the sums go out, the part that held them is 0, and the counter goes on. Assumes nothing.
+-- `frame::close` meets its contract: the sums are taken and go out, the part that held them is 0, and the counter goes on. Assumes nothing.
 use mathlib.Core.Path.{_≡_, refl, sym, ap, subst, _∙_}
-use mathlib.Core.List.{List}
+use mathlib.Core.List.{List, map}
 use Prim.Native.Nat.{ℕ, _+_, _<_}
 use native.Mathlib.Omega.{arith}
 use borrow.Author.Needs.{needs}
 use lib.ListN.{length, getD, take, drop, length-take, length-drop}
 use lib.Seq.{getD-take, getD-drop}
+use Rattle.channel.specs.Channel.{putOut}
 use Rattle.machine.specs.Words.{SUMS, WORDS}
 use Rattle.frame.specs.Frame.{closed, silenced, heard}
 use Rattle.frame.proofs.close.Statement.{statement}
@@ -19,14 +20,14 @@ small m h f i k = let l : i < 12 = omega (arith, twelve m h) in rw (getD-take 12
 
 put-out-requires : tie.Need-put-out-requires
 put-out-requires c κs =
-    let s = c .before .before .before .before in
-    (twelve (s .args .m .now) (s .pre .0) ∙ sym (s .pre .1 .1), small (s .args .m .now) (s .pre .0) (s .pre .1 .0))
+    let s = c .before .before .before .before .before .before .before in
+    rw (c .before .before .before .before .take-sums .ensures .0) (twelve (s .args .m .now) (s .pre .0) ∙ sym (s .pre .1 .1), small (s .args .m .now) (s .pre .0) (s .pre .1 .0))
 
 returns : tie.Need-returns
 unfolding closed silenced heard
 returns c =
-    let s = c .before .before .before .before .before .before .before .before .before .before .before .before in
-    rw (c .next .ensures, c .before .before .before .before .clear .ensures, twelve (s .args .m .now) (s .pre .0)) (refl, c .before .before .before .before .before .before .before .put-out .ensures)
+    let t = c .before .before .before .before .before .before .before .before .take-sums .ensures in
+    (rw (c .next .ensures, t .1) refl, c .before .before .before .put-out .ensures ∙ ap (map putOut) (t .0))
 
 pub close-spec : {M : Type 1} → statement M
 close-spec =
@@ -35,11 +36,9 @@ close-spec =
     (λ c. search needs)
     (λ c. search needs)
     (λ c. search needs)
-    put-out-requires
-    (λ c. search needs)
-    (λ c. search needs)
-    (λ c. search needs)
     (λ c κs. search needs)
+    (λ c. search needs)
+    put-out-requires
     (λ c. search needs)
     (λ c κs. search needs)
     (λ c. search needs)

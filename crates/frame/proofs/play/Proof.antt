@@ -1,5 +1,5 @@
--- `frame::play` meets its contract. The loop's invariant: the record is what the turns so far make of the first, and so is valid.
--- Assumes nothing.
+-- `frame::play` meets its contract. The loop's invariant, `Playing`: the record is what the turns so far make of the first, and so is
+-- valid; what all turns share is as it was made. Assumes nothing.
 use mathlib.Core.Path.{_≡_, refl, sym, ap, subst, _∙_}
 use mathlib.Core.Bool.{true}
 use mathlib.Core.List.{List}
@@ -8,72 +8,99 @@ use native.Mathlib.Numerals.{add-one}
 use native.Mathlib.Omega.{arith}
 use borrow.Author.Needs.{needs}
 use denote.Ref.{now}
+use lib.IntN.{ℤ}
 use lib.ListN.{length, getD}
 use Rattle.codes.specs.Codes.{Expands}
-use Rattle.machine.specs.Words.{valid, ACTV}
+use Rattle.sample.specs.Lasts.{Lasts}
+use Rattle.machine.specs.Words.{valid, ACTV, SLOW}
 use Rattle.machine.proofs.Valid.{Sound, sound, is-valid}
 use Rattle.frame.specs.Frame.{turnAt, turns, played}
 use Rattle.frame.proofs.Keeps.{active-le, sound-turns}
+use Rattle.frame.proofs.Turns.{turns-slow}
 use Rattle.frame.proofs.play.Statement.{statement}
 use Rattle.frame.proofs.play.Tie as tie
 
+record Playing (first memory lasts : List ℕ) (table : List ℤ) (slow n : ℕ) (m : List ℕ) (v : ℕ) : Type 0 where
+  whole : Sound first
+  near : Lasts (length memory) lasts
+  codes : Expands table
+  counter : slow ≡ getD first SLOW 0
+  active : n ≡ getD first ACTV 0 + 1
+  most : n ≤ 32
+  passed : v ≤ n
+  turned : m ≡ turns memory v first
+
 abbrev Inv-loop : tie.InvT-loop
-Inv-loop m₀ memory table last n v₀ m v =
-    Sound m₀ × (Expands table × ((n ≡ getD m₀ ACTV 0 + 1) × ((n ≤ 32) × ((v ≤ n) × (m ≡ turns memory v m₀)))))
+Inv-loop m₀ memory lasts table slow last n v₀ m v = Playing m₀ memory lasts table slow n m v
 
 abbrev μ-loop : tie.MeasureT-loop
-μ-loop m₀ memory table last n v₀ m v = n - v
+μ-loop m₀ memory lasts table slow last n v₀ m v = n - v
 
 loop-holds : tie.Need-loop-holds Inv-loop μ-loop
 unfolding turns
 loop-holds c =
-    let s = c .before .before .before .before .before in
+    let s = c .before .before .before .before .before .before .before in
     let r = sound (s .args .m .now) (s .pre) in
-    (r, (c .before .before .values .ensures, (c .count .ensures, (omega (arith, c .count .ensures, active-le (s .args .m .now) r), (omega arith, refl)))))
+    record {
+      whole = r;
+      near = c .before .before .before .before .lasts .ensures;
+      codes = c .before .before .before .values .ensures;
+      counter = refl;
+      active = c .count .ensures;
+      most = omega (arith, c .count .ensures, active-le (s .args .m .now) r);
+      passed = omega arith;
+      turned = refl;
+    }
 
 turn-requires : tie.Need-turn-requires Inv-loop μ-loop
 turn-requires c κs =
-    let l = c .before .before .before .loop in
-    let i = l .inv in (
-      subst (λ (x : List ℕ). valid x ≡ true) (sym (i .1 .1 .1 .1 .1)) (is-valid _ (sound-turns (now (c .before .before .before .before .before .before .before .before .before .args .memory)) (l .v) (i .0) (omega arith))),
-      (omega arith, i .1 .0),
+    let l = c .before .before .before .before .loop in
+    let memory = now (c .before .before .before .before .before .before .before .before .before .before .before .before .args .memory) in
+    let h = l .inv in
+    let few : l .v ≤ 32 = omega arith in (
+      subst (λ (x : List ℕ). valid x ≡ true) (sym (h .turned)) (is-valid _ (sound-turns memory (l .v) (h .whole) few)),
+      (
+        omega arith,
+        (
+          h .counter ∙ sym (ap (λ (x : List ℕ). getD x SLOW 0) (h .turned) ∙ turns-slow memory (l .v) (h .whole) few),
+          (h .near, h .codes),
+        ),
+      ),
     )
 
 loop-again : tie.Need-loop-again Inv-loop μ-loop
 unfolding turns
 loop-again c =
-    let l = c .before .before .before .before .before .before .loop in
-    let s = c .before .before .before .before .before .before .before .before .before .before .before .before in
-    let i = l .inv in (
-      i .0,
-      (
-        i .1 .0,
-        (
-          i .1 .1 .0,
-          (
-            i .1 .1 .1 .0,
-            (omega arith, rw add-one (c .before .before .turn .ensures ∙ ap (turnAt (now (s .args .memory)) (l .v)) (i .1 .1 .1 .1 .1))),
-          ),
-        ),
-      ),
-    )
+    let l = c .before .before .before .before .before .before .before .loop in
+    let memory = now (c .before .before .before .before .before .before .before .before .before .before .before .before .before .before .before .args .memory) in
+    let h = l .inv in
+    record {
+      whole = h .whole;
+      near = h .near;
+      codes = h .codes;
+      counter = h .counter;
+      active = h .active;
+      most = h .most;
+      passed = omega arith;
+      turned = rw add-one (c .before .before .turn .ensures ∙ ap (turnAt memory (l .v)) (h .turned));
+    }
 
 -- the record after the turns so far has as many words as the first
 same-length : tie.Need-same-length Inv-loop μ-loop
 same-length c =
     let l = c .before .loop in
-    let s = c .before .before .before .before .before .before .before in
-    let i = l .inv in
-    ap length (i .1 .1 .1 .1 .1) ∙ sound-turns (now (s .args .memory)) (l .v) (i .0) (omega arith) .size ∙ sym (i .0 .size)
+    let h = l .inv in
+    let memory = now (c .before .before .before .before .before .before .before .before .before .args .memory) in
+    ap length (h .turned) ∙ sound-turns memory (l .v) (h .whole) (omega arith) .size ∙ sym (h .whole .size)
 
 returns : tie.Need-returns Inv-loop μ-loop
 unfolding played
 returns c =
     let l = c .before .loop in
-    let s = c .before .before .before .before .before .before .before in
-    let i = l .inv in
-    let e : l .v ≡ getD (s .args .m .now) ACTV 0 + 1 = omega (arith, i .1 .1 .0, i .1 .1 .1 .1 .0, c .loop-test .left) in
-    i .1 .1 .1 .1 .1 ∙ ap (λ (k : ℕ). turns (now (s .args .memory)) k (s .args .m .now)) e
+    let h = l .inv in
+    let s = c .before .before .before .before .before .before .before .before .before in
+    let e : l .v ≡ getD (s .args .m .now) ACTV 0 + 1 = omega (arith, h .active, h .passed, c .loop-test .left) in
+    h .turned ∙ ap (λ (k : ℕ). turns (now (s .args .memory)) k (s .args .m .now)) e
 
 pub play-spec : {M : Type 1} → statement M
 play-spec =
@@ -82,7 +109,9 @@ play-spec =
     Inv-loop
     μ-loop
     (λ c κs. search needs)
-    (λ c. omega (arith, sound (c .before .before .before .before .args .m .now) (c .before .before .before .before .pre) .size))
+    (λ c κs. search needs)
+    (λ c. omega (arith, sound (c .before .before .before .before .before .args .m .now) (c .before .before .before .before .before .pre) .size))
+    (λ c. omega (arith, sound (c .before .before .before .before .before .before .args .m .now) (c .before .before .before .before .before .before .pre) .size))
     (λ c κs. search needs)
     loop-holds
     turn-requires

@@ -1,77 +1,91 @@
--- `machine::check` meets its contract. The loop's invariant: the accumulator is 0 where the words passed have in no
--- voice a bit that they do not keep. Assumes nothing.
-use mathlib.Core.Path.{_≡_, refl, sym, ap, _∙_}
-use mathlib.Core.Bool.{true, false, _&&_, _||_}
-use Prim.Native.Nat.{ℕ, _+_, _*_, _-_, _≤_}
+-- `machine::check` meets its contract. The loop's invariant: no lane has a bit where the words passed have in no voice a bit that they do
+-- not keep. Assumes nothing.
+use mathlib.Core.Path.{_≡_, refl, sym, ap, ap₂, _∙_}
+use mathlib.Core.Bool.{Bool, true, false, cond, _&&_}
+use Prim.Native.Nat.{_+_, _*_, _-_, _≤_}
 use native.Mathlib.Omega.{arith}
-use lib.Bits.{bitAnd, bitOr, bitXor}
 use lib.Dec.{eqb}
-use lib.ListN.{length, getD, length-take, length-drop}
+use lib.ListN.{getD, length-take, length-drop}
 use borrow.Author.Needs.{needs}
 use borrow.Author.Tests.{eq-eqb, ne-eqb, lt-ltb, le-ltb}
-use Rattle.machine.specs.Words.{voiceBits, aboveBits, cutTo, isVector, WORDS}
-use Rattle.machine.specs.Kept.{keptBy, gatheredKept}
-use Rattle.machine.proofs.Kept.{one-more-gathered, or-test}
-use Rattle.machine.proofs.Valid.{above-part, words-test}
+use Rattle.answer.specs.declared.Answer.the-variants.{Done, RecordWord}
+use Rattle.machine.specs.Words.{voiceBits, aboveBits, cutTo, isVector, IRQV, WORDS}
+use Rattle.machine.specs.Kept.{keptBy, gatheredKept, clear, Lanes}
+use Rattle.machine.specs.Calls.{checked}
+use Rattle.machine.proofs.Kept.{four-lanes}
+use Rattle.machine.proofs.Valid.{above-part, above-bits, words-test}
 use Rattle.machine.proofs.Answers.{check-size, check-stray, check-vector}
 use Rattle.machine.proofs.check.Statement.{statement}
 use Rattle.machine.proofs.check.Tie as tie
 
 abbrev Inv-loop : tie.InvT-loop
-Inv-loop m voice stray₀ j₀ stray j = (length m ≡ WORDS) × ((j ≤ 20) × (eqb stray 0 ≡ gatheredKept m j))
+Inv-loop m kept stray₀ g₀ stray g = (g ≤ 4) × Lanes stray (gatheredKept m (4 * g))
 
 abbrev μ-loop : tie.MeasureT-loop
-μ-loop m voice stray₀ j₀ stray j = 20 - j
+μ-loop m kept stray₀ g₀ stray g = 4 - g
 
 returns : tie.Need-returns Inv-loop μ-loop
 returns c = sym (check-size _ (c .if1 .taken))
 
 loop-holds : tie.Need-loop-holds Inv-loop μ-loop
-unfolding gatheredKept
-loop-holds c = (omega arith, (omega arith, refl))
+unfolding gatheredKept clear
+loop-holds c = (omega arith, record { four = refl; tell = refl })
+
+look-at-four-requires : tie.Need-look-at-four-requires Inv-loop μ-loop
+unfolding voiceBits
+look-at-four-requires c κs = (omega arith, (omega arith, (refl, c .before .before .before .loop .inv .1)))
 
 loop-again : tie.Need-loop-again Inv-loop μ-loop
-unfolding voiceBits
 loop-again c =
-    let h = c .before .before .loop in
-    let m = c .before .before .before .before .before .args .m .now in (
-      omega arith,
-      (
-        omega arith,
-        ap (λ (x : ℕ). eqb (bitOr (h .stray) (bitXor x (bitAnd x (getD voiceBits (h .j) 0)))) 0) (c .gather .ensures) ∙ one-more-gathered m (h .j) (h .stray) (h .inv .1 .1),
-      ),
-    )
+    let e : 4 * (c .before .before .before .before .loop .g + 1) ≡ 4 * c .before .before .before .before .loop .g + 4 = omega arith in
+    (omega arith, rw e (c .look-at-four .ensures))
 
--- both accumulators speak of the whole record
-whole : (c : tie.After-stray-bits Inv-loop μ-loop)
-    → eqb (bitOr (c .before .before .before .before .loop .stray) (c .stray-bits .result)) 0 ≡ cutTo (c .before .before .before .before .before .before .before .args .m .now) WORDS
-unfolding above-part aboveBits
-whole c =
-    let h = c .before .before .before .before .loop in
-    let m = c .before .before .before .before .before .before .before .args .m .now in
-    let e : h .j ≡ 20 = omega (arith, c .before .before .before .loop-test .left, h .inv .1 .0) in
-    or-test (h .stray) (c .stray-bits .result) (gatheredKept m 20) (keptBy (above-part m) aboveBits) (h .inv .1 .1 ∙ ap (λ (n : ℕ). gatheredKept m n) e) (c .stray-bits .ensures) ∙ words-test m
+look-at-last-requires : tie.Need-look-at-last-requires Inv-loop μ-loop
+look-at-last-requires c κs =
+    let e : 4 * c .before .before .loop .g ≡ 16 = omega arith in
+    (omega arith, rw e at (c .before .before .loop .inv .1))
 
 returns-2 : tie.Need-returns-2 Inv-loop μ-loop
-returns-2 c = sym (check-stray _ (c .before .before .before .before .before .before .if1 .left) (sym (whole (c .before)) ∙ ne-eqb _ _ (c .if2 .taken)))
+returns-2 c =
+    let e = c .before .before .before .before .before in
+    let m = e .before .before .args .m .now in
+    sym (check-stray m (e .if1 .left)
+    (sym (words-test m)
+    ∙ ap (λ (b : Bool). b && keptBy (above-part m) above-bits) (sym (four-lanes (c .before .look-at-last .ensures)) ∙ ne-eqb _ _ (c .if2 .taken))))
+
+-- past the lanes' test, that of the words between the voices and the sums speaks of the whole record
+whole : (c : tie.After-stray-bits Inv-loop μ-loop)
+    → cutTo (c .before .before .before .before .before .before .before .before .before .before .before .args .m .now) WORDS ≡ eqb (c .stray-bits .result) 0
+unfolding above-part above-bits aboveBits
+whole c =
+    let e = c .before .before .before .before in
+    sym (words-test (e .before .before .before .before .before .before .before .args .m .now))
+    ∙ ap₂ _&&_ (sym (four-lanes (e .before .look-at-last .ensures)) ∙ eq-eqb _ _ (e .if2 .left)) (sym (c .stray-bits .ensures))
 
 returns-3 : tie.Need-returns-3 Inv-loop μ-loop
-unfolding isVector
 returns-3 c =
-    sym (check-vector _ (c .before .before .before .before .before .before .before .before .if1 .left) (sym (whole (c .before .before .before)) ∙ eq-eqb _ _ (c .before .before .if2 .left)) true
-    (rw (lt-ltb _ _ (c .if3 .taken))))
+    sym (check-stray _ (c .before .before .before .before .before .before .before .before .before .before .if1 .left)
+    (whole (c .before) ∙ ne-eqb _ _ (c .if3 .taken)))
+
+-- past both, the vector decides
+by-vector : (c : tie.Else3 Inv-loop μ-loop) (b : Bool)
+    → isVector (getD (c .before .before .before .before .before .before .before .before .before .before .before .before .args .m .now) IRQV 0) ≡ b
+    → cond b Done RecordWord ≡ checked (c .before .before .before .before .before .before .before .before .before .before .before .before .args .m .now)
+by-vector c b q =
+    sym (check-vector _ (c .before .before .before .before .before .before .before .before .before .before .if1 .left)
+    (whole (c .before) ∙ eq-eqb _ _ (c .if3 .left)) b q)
 
 returns-4 : tie.Need-returns-4 Inv-loop μ-loop
 unfolding isVector
-returns-4 c =
-    sym (check-vector _ (c .before .before .before .before .before .before .before .before .before .if1 .left) (sym (whole (c .before .before .before .before)) ∙ eq-eqb _ _ (c .before .before .before .if2 .left)) true
-    (rw (le-ltb _ _ (c .before .if3 .left), eq-eqb _ _ (c .if4 .taken))))
+returns-4 c = by-vector (c .before .before) true (rw (lt-ltb _ _ (c .if4 .taken)))
 
 returns-5 : tie.Need-returns-5 Inv-loop μ-loop
 unfolding isVector
-returns-5 c =
-    sym (check-vector _ (c .before .before .before .before .before .before .before .before .before .if1 .left) (sym (whole (c .before .before .before .before)) ∙ eq-eqb _ _ (c .before .before .before .if2 .left)) false
-    (rw (le-ltb _ _ (c .before .if3 .left), ne-eqb _ _ (c .if4 .left))))
+returns-5 c = by-vector (c .before .before .before) true (rw (le-ltb _ _ (c .before .if4 .left), eq-eqb _ _ (c .if5 .taken)))
+
+returns-6 : tie.Need-returns-6 Inv-loop μ-loop
+unfolding isVector
+returns-6 c = by-vector (c .before .before .before) false (rw (le-ltb _ _ (c .before .if4 .left), ne-eqb _ _ (c .if5 .left)))
 
 pub check-spec : {M : Type 1} → statement M
 check-spec =
@@ -82,18 +96,25 @@ check-spec =
     returns
     loop-holds
     (λ c. search needs)
-    (λ c. search needs)
-    (λ c. search needs)
+    look-at-four-requires
     (λ c. search needs)
     (λ c. search needs)
     loop-again
+    look-at-last-requires
+    (λ c. search needs)
+    (λ c. search needs)
+    (λ c. search needs)
+    (λ c. search needs)
+    returns-2
+    (λ c. search needs)
+    (λ c. search needs)
     (λ c. search needs)
     (λ c. search needs)
     (λ c. search needs)
     (λ c. search needs)
     (λ c κs. simp (length-take, length-drop) (omega arith))
-    returns-2
-    (λ c. search needs)
     returns-3
+    (λ c. search needs)
     returns-4
-    returns-5)
+    returns-5
+    returns-6)

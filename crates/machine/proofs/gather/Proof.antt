@@ -1,39 +1,47 @@
 -- `machine::gather` meets its contract. The loop's invariant: the accumulator is what the voices passed have. Assumes nothing.
 use mathlib.Core.Path.{_≡_, refl, ap, _∙_}
-use Prim.Native.Nat.{ℕ, _+_, _*_, _-_, _≤_, _<_}
-use native.Mathlib.Numerals.{add-one}
+use Prim.Native.Nat.{_-_, _≤_}
 use native.Mathlib.Omega.{arith}
-use lib.Bits.{bitOr}
-use lib.ListN.{length, getD}
-use borrow.Author.Needs.{needs}
-use Rattle.machine.specs.Words.{WORDS}
 use Rattle.machine.specs.Kept.{gathered}
+use Rattle.machine.proofs.Kept.{one-gathered}
 use Rattle.machine.proofs.gather.Statement.{statement}
 use Rattle.machine.proofs.gather.Tie as tie
 
 abbrev Inv-loop : tie.InvT-loop
-Inv-loop m j all₀ v₀ all v = (v ≤ 32) × ((length m ≡ WORDS) × ((j < 20) × (all ≡ gathered m j v)))
+Inv-loop m j all₀ v₀ all v = (v ≤ 32) × (all ≡ gathered m 20 j v)
 
 abbrev μ-loop : tie.MeasureT-loop
 μ-loop m j all₀ v₀ all v = 32 - v
 
 loop-holds : tie.Need-loop-holds Inv-loop μ-loop
 unfolding gathered
-loop-holds c = (omega arith, (omega arith, (omega arith, refl)))
+loop-holds c = (omega arith, refl)
 
 loop-again : tie.Need-loop-again Inv-loop μ-loop
-unfolding gathered
 loop-again c =
     let h = c .before .before .loop in
     let a = c .before .before .before .args in
-    (omega arith, (omega arith, (omega arith, rw add-one (ap (λ (x : ℕ). bitOr x (getD (a .m .now) (20 * h .v + a .j) 0)) (h .inv .1 .1 .1)))))
+    (omega arith, one-gathered (a .m .now) 20 (a .j) (h .v) _ (h .all) (omega arith) (h .inv .1))
 
 returns : tie.Need-returns Inv-loop μ-loop
 returns c =
     let h = c .before .loop in
     let a = c .before .before .args in
     let e : h .v ≡ 32 = omega arith in
-    h .inv .1 .1 .1 ∙ ap (gathered (a .m .now) (a .j)) e
+    h .inv .1 ∙ ap (gathered (a .m .now) 20 (a .j)) e
 
 pub gather-spec : {M : Type 1} → statement M
-gather-spec = tie.close (tie.spec Inv-loop μ-loop loop-holds (λ c. omega arith) (λ c. omega arith) (λ c. omega arith) (λ c. omega arith) (λ c. omega arith) (λ c. omega arith) loop-again returns)
+gather-spec =
+    tie.close
+    (tie.spec
+    Inv-loop
+    μ-loop
+    loop-holds
+    (λ c. omega arith)
+    (λ c. omega arith)
+    (λ c. omega arith)
+    (λ c. omega arith)
+    (λ c. omega arith)
+    (λ c. omega arith)
+    loop-again
+    returns)

@@ -1,5 +1,5 @@
 -- `voice::outputs` meets its contract: each output is its word's number, of 18 bits. Assumes nothing.
-use mathlib.Core.Path.{_≡_, _∙_}
+use mathlib.Core.Path.{_≡_, refl, subst, sym}
 use Prim.Native.Nat.{ℕ, _<_, _^_}
 use borrow.Author.Needs.{needs}
 use lib.Dec.{lit<}
@@ -7,7 +7,6 @@ use lib.IntN.{ℤ}
 use lib.Signed.{mag}
 use mir.Syntax.{w32}
 use mir.Val.{toZ, ofZ, hbits}
-use mathlib.Core.Path.{refl, subst, sym}
 use Rattle.numbers.specs.Numbers.{signed, Bits}
 use Rattle.numbers.proofs.Words.{signed-bits}
 use Rattle.numbers.proofs.Local.{handed}
@@ -22,13 +21,24 @@ number w h f e = handed w32 (Bits 18) f (e, subst (Bits 18) (sym e) (signed-bits
 returns : tie.Need-returns
 unfolding outputs
 returns c =
-    let s = c .before .before .before .before in
-    let v = s .args .v in
-    let n1 = number (v .o1n1) (s .pre .o1n1) (c .before .before .before .number-of .ok) (c .before .before .before .number-of .ensures) in
-    let n2 = number (v .o2n1) (s .pre .o2n1) (c .before .before .number-of2 .ok) (c .before .before .number-of2 .ensures) in
-    let n3 = number (v .o3n1) (s .pre .o3n1) (c .before .number-of3 .ok) (c .before .number-of3 .ensures) in
-    let n4 = number (v .o4n1) (s .pre .o4n1) (c .number-of4 .ok) (c .number-of4 .ensures) in
+    let a = c .before .before .before .before .before .before in
+    let r = a .before .before .before .pre .1 in
+    let n1 = number _ (r .o1n1) (a .number-of .ok) (a .number-of .ensures) in
+    let n2 = number _ (r .o2n1) (c .before .before .before .before .number-of2 .ok) (c .before .before .before .before .number-of2 .ensures) in
+    let n3 = number _ (r .o3n1) (c .before .before .number-of3 .ok) (c .before .before .number-of3 .ensures) in
+    let n4 = number _ (r .o4n1) (c .number-of4 .ok) (c .number-of4 .ensures) in
     (λ i. record { o1 = n1 .0 i; o2 = n2 .0 i; o3 = n3 .0 i; o4 = n4 .0 i }, record { first = n1 .1; second = n2 .1; third = n3 .1; fourth = n4 .1 })
 
 pub outputs-spec : {M : Type 1} → statement M
-outputs-spec = tie.close (tie.spec (λ c κs. search needs) (λ c κs. search needs) (λ c κs. search needs) (λ c κs. search needs) returns)
+outputs-spec =
+    tie.close
+    (tie.spec
+    (λ c. search needs)
+    (λ c κs. search needs)
+    (λ c. search needs)
+    (λ c κs. search needs)
+    (λ c. search needs)
+    (λ c κs. search needs)
+    (λ c. search needs)
+    (λ c κs. search needs)
+    returns)
