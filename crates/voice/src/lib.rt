@@ -108,11 +108,10 @@ fn input(w: &[u32], cr: u32, memory: &[u16], lasts: &[usize; 4], table: &[i16; 2
     requires { ⌜ Expands (now table) ⌝ }
     ensures { λ r. ⌜ (r ≡ cond (runs cr) (sampled (now (memory .entry)) (voiceOf (now (w .entry)))) (pos 0)) × Bits 18 r ⌝ }
 {
-    if control::running(cr) {
-        sample::interpolate(memory, lasts, table, cr, w[ACCUM])
-    } else {
-        0
+    if !control::running(cr) {
+        return 0;
     }
+    sample::interpolate(memory, lasts, table, cr, w[ACCUM])
 }
 
 // The sample x passes the filters; the new output of pole 4. The old outputs move back first, so that no copy of them is kept.
