@@ -2,6 +2,7 @@
  * bench ENGINE CASE TIMES: makes one call so many times, for its instructions
  * to be counted from outside. What the calls give is printed as one number,
  * so that none can be left out and unlike engines show as unlike numbers.
+ * bench cases: prints the names of the cases.
  */
 #include <stdio.h>
 #include <stdlib.h>
@@ -12,10 +13,16 @@
 #include "random.h"
 #include "reference.h"
 
+#define NOISE_WORDS 65536u /* that the voices' loops lie in */
+#define MOST_ECOUNT 511u
+
 static const struct engine *engine;
-static uint32_t record[OTTO_RECORD_WORDS];
-static uint16_t memory[65536];
+static _Alignas(16) uint32_t record[OTTO_RECORD_WORDS]; /* as malloc does */
+static uint16_t memory[BANK_WORDS];
+static size_t memory_words = NOISE_WORDS; /* lent */
 static int32_t output[OTTO_OUTPUT_VALUES];
+
+/* ==== frames of voices on loops in noise ================================== */
 
 /* Thirty-two voices that run on loops in noise, spread over channels, filter
    kinds and loop modes; extra is added to each CR. */
@@ -42,6 +49,19 @@ static void set_voices(uint32_t extra, uint32_t ecount)
     }
 }
 
+static inline uint32_t one_frame(void)
+{
+    return engine->frame(record, OTTO_RECORD_WORDS, memory, memory_words,
+                         output, OTTO_OUTPUT_VALUES);
+}
+
+/* The sum of a run with one frame more. */
+static inline uint32_t with_frame(uint32_t sum, uint32_t i)
+{
+    sum += one_frame();
+    return 31 * sum + (uint32_t)output[i % OTTO_OUTPUT_VALUES];
+}
+
 static uint32_t frames(uint32_t times, uint32_t extra, uint32_t ecount)
 {
     uint32_t sum = 0;
@@ -51,9 +71,7 @@ static uint32_t frames(uint32_t times, uint32_t extra, uint32_t ecount)
         if (ecount != 0 && i % ecount == 0) {
             set_voices(extra, ecount); /* the ramps have run out */
         }
-        sum += engine->frame(record, OTTO_RECORD_WORDS, memory, 65536, output,
-                             OTTO_OUTPUT_VALUES);
-        sum = 31 * sum + (uint32_t)output[i % OTTO_OUTPUT_VALUES];
+        sum = with_frame(sum, i);
     }
     return sum;
 }
@@ -72,6 +90,168 @@ static uint32_t run_frame_ramps(uint32_t times)
 {
     return frames(times, 0, 500);
 }
+
+/* ==== how the cost of a frame grows ======================================= */
+
+#define ROUNDS     5u
+#define MOST_TIMES 1500u
+
+typedef void setting(uint32_t given);
+
+/* Frames from a setting. It is made as often in a short run as in a long one,
+   and so falls out of their difference. In so few frames no voice comes to its
+   loop point but where the setting means it to. */
+static uint32_t frames_from(setting *set, uint32_t given, uint32_t times)
+{
+    uint32_t sum = 0;
+
+    for (uint32_t round = 0; round < ROUNDS; round++) {
+        set(given);
+        for (uint32_t i = 0; i < times / ROUNDS; i++) {
+            sum = with_frame(sum, i);
+        }
+    }
+    return sum;
+}
+
+/* Frames of which each changes what made it costly, and so is set anew: here
+   too as often in a short run as in a long one. */
+static uint32_t frames_each_from(setting *set, uint32_t given, uint32_t times)
+{
+    uint32_t sum = 0;
+
+    for (uint32_t i = 0; i < MOST_TIMES; i++) {
+        set(given);
+        if (i < times) {
+            sum = with_frame(sum, i);
+        }
+    }
+    return sum;
+}
+
+static void set_active(uint32_t voices)
+{
+    set_voices(0, 0);
+    record[WORD_ACTV] = voices - 1;
+}
+
+static void set_stopped(uint32_t stop)
+{
+    set_voices(stop, 0);
+}
+
+/* A loop as long as the step: wherever a voice is in it, it passes the loop
+   point in every frame, and comes back to where it was or, turning, to the
+   like place at the other end. */
+static void set_loop(uint32_t *voice, uint32_t start, uint32_t length,
+                     uint32_t past)
+{
+    voice[VOICE_FC] = length;
+    voice[VOICE_START] = start;
+    voice[VOICE_END] = start + length;
+    voice[VOICE_ACCUM] = (voice[VOICE_CR] & CR_DIR) == 0
+                             ? start + past
+                             : start + length - past;
+}
+
+/* Both loop modes, one way and turning, and both directions. */
+static void set_events(uint32_t extra)
+{
+    set_voices(extra, 0);
+    for (uint32_t v = 0; v < VOICES; v++) {
+        uint32_t *voice = record + v * VOICE_WORDS;
+
+        voice[VOICE_CR] |= v / 4 % 2 * CR_DIR;
+        set_loop(voice, voice[VOICE_START], 2048 + 128 * v, 1 + v);
+    }
+}
+
+/* All that costs most, at once in every voice: two high passes, codes, the last
+   sample of a bank, whose next is the bank's first, an event with an interrupt
+   while none waits, and four fast ramps in a frame where slow ones rest. The
+   loop mode and the direction are given: they change the cost by little, and
+   which of them costs most depends on the engine. */
+static void set_worst(uint32_t mode)
+{
+    set_voices(0, MOST_ECOUNT);
+    for (uint32_t v = 0; v < VOICES; v++) {
+        uint32_t *voice = record + v * VOICE_WORDS;
+
+        voice[VOICE_CR] = CR_IRQE | CR_CMPD | v % 6 * CR_CA0 | mode;
+        voice[VOICE_K1RAMP] &= ~1u;
+        voice[VOICE_K2RAMP] &= ~1u;
+        set_loop(voice, (BANK_WORDS - 1) * 2048u, 128 * (1 + v % 15), 5);
+    }
+    record[WORD_SLOW] = 1;
+    record[WORD_IRQV] = NO_INTERRUPT;
+    memory_words = BANK_WORDS;
+}
+
+/* Samples of one size, from the least on and with either sign. */
+static void set_samples(uint32_t least)
+{
+    random_seed(2);
+    for (size_t i = 0; i < NOISE_WORDS; i++) {
+        uint32_t size = least + random_below(8);
+
+        memory[i] = (uint16_t)(random_once_in(2) ? size : 0u - size);
+    }
+    set_voices(0, 0);
+}
+
+/* ==== that the settings are what is said of them ========================== */
+
+static void must(int so, const char *what)
+{
+    if (!so) {
+        fprintf(stderr, "bench: %s: not so that %s\n", engine->name, what);
+        exit(1);
+    }
+}
+
+/* With IRQE on and IRQ cleared, each voice shows whether it had an event. */
+static void must_have_events(void)
+{
+    for (uint32_t v = 0; v < VOICES; v++) {
+        uint32_t *cr = record + v * VOICE_WORDS + VOICE_CR;
+
+        *cr = (*cr | CR_IRQE) & ~CR_IRQ;
+    }
+    must(one_frame() == OTTO_DONE, "the frame is done");
+    for (uint32_t v = 0; v < VOICES; v++) {
+        must((record[v * VOICE_WORDS + VOICE_CR] & CR_IRQ) != 0,
+             "each voice has an event in each frame");
+    }
+}
+
+static void must_be_worst(uint32_t mode)
+{
+    set_worst(mode);
+    for (uint32_t v = 0; v < VOICES; v++) {
+        must(record[v * VOICE_WORDS + VOICE_ACCUM] >> 11 == BANK_WORDS - 1,
+             "each voice is at its bank's last sample");
+    }
+    must_have_events();
+    for (uint32_t v = 0; v < VOICES; v++) {
+        must(record[v * VOICE_WORDS + VOICE_ECOUNT] == MOST_ECOUNT - 1,
+             "each voice's ramps move");
+    }
+    must(record[WORD_IRQV] == 0, "the first voice's interrupt is taken");
+}
+
+static uint32_t run_claims(uint32_t times)
+{
+    set_events(0);
+    for (uint32_t i = 0; i < times; i++) {
+        must_have_events();
+    }
+    for (uint32_t mode = 0; mode < 8; mode++) {
+        must_be_worst(mode % 4 * CR_LPE | mode / 4 * CR_DIR);
+    }
+    return times;
+}
+
+/* ==== the other calls ===================================================== */
 
 /* Bytes 0 to 3 of registers 0 to 12 on a voice's page, over and over. */
 static uint32_t run_write(uint32_t times)
@@ -127,10 +307,12 @@ static uint32_t run_nothing(uint32_t times)
     return sum;
 }
 
+/* ==== the cases =========================================================== */
+
 static const struct {
     const char *name;
     uint32_t (*run)(uint32_t times);
-} cases[] = {
+} calls[] = {
     { "frame", run_frame },
     { "frame_compressed", run_frame_compressed },
     { "frame_ramps", run_frame_ramps },
@@ -139,27 +321,97 @@ static const struct {
     { "compress", run_compress },
     { "expand", run_expand },
     { "nothing", run_nothing },
+    { "claims", run_claims },
 };
+
+static const struct {
+    const char *name;
+    uint32_t (*run_from)(setting *set, uint32_t given, uint32_t times);
+    setting *set;
+    uint32_t given;
+} settings[] = {
+    { "frame_5", frames_from, set_active, 5 },
+    { "frame_8", frames_from, set_active, 8 },
+    { "frame_16", frames_from, set_active, 16 },
+    { "frame_32", frames_from, set_active, 32 },
+    { "frame_stopped", frames_from, set_stopped, CR_STP0 },
+    { "frame_events", frames_from, set_events, 0 },
+    { "frame_worst_00", frames_each_from, set_worst, 0 },
+    { "frame_worst_01", frames_each_from, set_worst, CR_LPE },
+    { "frame_worst_10", frames_each_from, set_worst, CR_BLE },
+    { "frame_worst_11", frames_each_from, set_worst, CR_BLE | CR_LPE },
+    { "frame_worst_00_back", frames_each_from, set_worst, CR_DIR },
+    { "frame_worst_01_back", frames_each_from, set_worst, CR_DIR | CR_LPE },
+    { "frame_worst_10_back", frames_each_from, set_worst, CR_DIR | CR_BLE },
+    { "frame_worst_11_back", frames_each_from, set_worst,
+      CR_DIR | CR_BLE | CR_LPE },
+    { "frame_quiet", frames_from, set_samples, 0 },
+    { "frame_loud", frames_from, set_samples, 32760 },
+};
+
+#define COUNT(list) (sizeof(list) / sizeof(list)[0])
+
+static int print_cases(void)
+{
+    for (size_t i = 0; i < COUNT(calls); i++) {
+        printf("%s\n", calls[i].name);
+    }
+    for (size_t i = 0; i < COUNT(settings); i++) {
+        printf("%s\n", settings[i].name);
+    }
+    return 0;
+}
+
+static uint32_t run_case(const char *name, uint32_t times)
+{
+    for (size_t i = 0; i < COUNT(calls); i++) {
+        if (strcmp(calls[i].name, name) == 0) {
+            return calls[i].run(times);
+        }
+    }
+    for (size_t i = 0; i < COUNT(settings); i++) {
+        if (strcmp(settings[i].name, name) == 0) {
+            return settings[i].run_from(settings[i].set, settings[i].given,
+                                        times);
+        }
+    }
+    fprintf(stderr, "bench: no case %s\n", name);
+    exit(2);
+}
+
+/* In eight digits always, so that printing one number costs what printing
+   another does. */
+static void print_word(uint32_t word)
+{
+    char digits[9] = { 0 };
+
+    for (int i = 0; i < 8; i++) {
+        digits[i] = "0123456789ABCDEF"[word >> (28 - 4 * i) & 15];
+    }
+    (void)puts(digits);
+}
+
+static void prepare(void)
+{
+    random_seed(1);
+    for (size_t i = 0; i < NOISE_WORDS; i++) {
+        memory[i] = (uint16_t)random_word();
+    }
+    memory[BANK_WORDS - 1] = (uint16_t)random_word();
+    (void)engine->reset(record, OTTO_RECORD_WORDS);
+}
 
 int main(int words, char **word)
 {
+    if (words == 2 && strcmp(word[1], "cases") == 0) {
+        return print_cases();
+    }
     engine = words == 4 ? engine_named(word[1]) : NULL;
     if (engine == NULL) {
         fprintf(stderr, "bench ENGINE CASE TIMES\n");
         return 2;
     }
-    random_seed(1);
-    for (size_t i = 0; i < sizeof memory / sizeof memory[0]; i++) {
-        memory[i] = (uint16_t)random_word();
-    }
-    (void)engine->reset(record, OTTO_RECORD_WORDS);
-    for (size_t i = 0; i < sizeof cases / sizeof cases[0]; i++) {
-        if (strcmp(cases[i].name, word[2]) == 0) {
-            printf("%u\n", (unsigned)cases[i].run(
-                               (uint32_t)strtoul(word[3], NULL, 10)));
-            return 0;
-        }
-    }
-    fprintf(stderr, "bench: no case %s\n", word[2]);
-    return 2;
+    prepare();
+    print_word(run_case(word[2], (uint32_t)strtoul(word[3], NULL, 10)));
+    return 0;
 }

@@ -1,5 +1,6 @@
 /*
- * The tables of calls of the three engines.
+ * The tables of calls of the library and the model, and the list of engines.
+ * BUILDS has the addresses of those builds of swift.c that are linked.
  */
 #include <string.h>
 
@@ -17,12 +18,10 @@
 
 const struct engine engine_otto = CALLS(otto);
 const struct engine engine_reference = CALLS(reference);
-const struct engine engine_swift = CALLS(swift);
 
 const struct engine *engine_named(const char *name)
 {
-    const struct engine *all[] = { &engine_otto, &engine_reference,
-                                   &engine_swift };
+    const struct engine *all[] = { &engine_otto, &engine_reference, BUILDS };
 
     for (size_t i = 0; i < sizeof all / sizeof all[0]; i++) {
         if (strcmp(all[i]->name, name) == 0) {

@@ -1,6 +1,6 @@
 /*
- * The three engines behind one table of calls, so that a test or a bench is
- * written once: the library, the reference model, and the C for speed.
+ * The engines behind one table of calls, so that a test or a bench is written
+ * once: the library, the reference model, and the builds of the C for speed.
  */
 #ifndef ENGINES_H
 #define ENGINES_H
@@ -25,7 +25,6 @@ struct engine {
 
 extern const struct engine engine_otto;
 extern const struct engine engine_reference;
-extern const struct engine engine_swift;
 
 /* The engine of a name, or NULL. */
 const struct engine *engine_named(const char *name);

@@ -3,7 +3,8 @@
  *
  * A lent buffer ends where a page begins that cannot be touched, so a load or
  * a store past its end stops the program; in front of it are words that must
- * not change. Sample memory cannot be written at all.
+ * not change. A record may end a few words before the page, which must not
+ * change either. Sample memory cannot be written at all.
  */
 #define _DEFAULT_SOURCE
 #include "pair.h"
@@ -24,12 +25,13 @@
 
 /* What one engine is lent; each points just past the last value. */
 struct lent {
+    uint32_t *edge; /* of the record's page */
     uint32_t *record;
     int32_t *output;
     uint8_t *byte;
 };
 
-#define RECORD_BYTES (MOST_RECORD * sizeof(uint32_t))
+#define RECORD_BYTES ((MOST_RECORD + MOST_BEHIND) * sizeof(uint32_t))
 #define OUTPUT_BYTES (MOST_OUTPUT * sizeof(int32_t))
 #define BYTE_BYTES   16u
 
@@ -75,8 +77,8 @@ static void fill_memory(void)
 
 static void fresh(struct lent *lent)
 {
-    for (size_t i = 1; i <= MOST_RECORD; i++) {
-        lent->record[-(ptrdiff_t)i] = CANARY;
+    for (size_t i = 1; i <= MOST_RECORD + MOST_BEHIND; i++) {
+        lent->edge[-(ptrdiff_t)i] = CANARY;
     }
     for (size_t i = 1; i <= MOST_OUTPUT; i++) {
         lent->output[-(ptrdiff_t)i] = (int32_t)i;
@@ -130,6 +132,7 @@ static void stop_in_record(const char *call)
             stop_at(call, "word", OTTO_RECORD_WORDS - i, one, other);
         }
     }
+    stop(call, "the words behind the record differ");
 }
 
 /* ==== comparing =========================================================== */
@@ -158,7 +161,7 @@ static uint32_t compare(const char *call, const uint32_t answers[2])
     if (answers[0] != answers[1]) {
         stop_at(call, "answer", 0, answers[0], answers[1]);
     }
-    if (unlike(lents[0].record, lents[1].record, RECORD_BYTES)) {
+    if (unlike(lents[0].edge, lents[1].edge, RECORD_BYTES)) {
         stop_in_record(call);
     }
     compare_front(call);
@@ -179,7 +182,7 @@ void pair_open(const struct engine *one, const struct engine *other)
     engines[0] = one;
     engines[1] = other;
     for (int i = 0; i < 2; i++) {
-        lents[i].record = guarded(RECORD_BYTES);
+        lents[i].edge = guarded(RECORD_BYTES);
         lents[i].output = guarded(OUTPUT_BYTES);
         lents[i].byte = guarded(BYTE_BYTES);
     }
@@ -188,12 +191,14 @@ void pair_open(const struct engine *one, const struct engine *other)
     (void)signal(SIGBUS, crashed);
 }
 
-void pair_start(uint64_t new_seed)
+void pair_start(uint64_t new_seed, uint32_t behind)
 {
     seed = new_seed;
     calls = 0;
-    fresh(&lents[0]);
-    fresh(&lents[1]);
+    for (int i = 0; i < 2; i++) {
+        lents[i].record = lents[i].edge - behind;
+        fresh(&lents[i]);
+    }
     (void)pair_reset(OTTO_RECORD_WORDS);
 }
 

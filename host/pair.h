@@ -15,6 +15,7 @@
 #define MOST_RECORD 704u
 #define MOST_OUTPUT 32u
 #define MOST_MEMORY 8388609u
+#define MOST_BEHIND 3u
 
 struct pair_counts {
     unsigned long bytes;    /* byte calls, refused or not */
@@ -28,8 +29,10 @@ extern struct pair_counts pair_counts;
 /* Makes the buffers; sample memory is filled with noise. */
 void pair_open(const struct engine *one, const struct engine *other);
 
-/* The seed that a difference is reported under. */
-void pair_start(uint64_t seed);
+/* The seed that a difference is reported under, and how many words, at most
+   MOST_BEHIND, lie between the record and the page that cannot be touched: by
+   these it stands on every alignment that a host may give it. */
+void pair_start(uint64_t seed, uint32_t behind);
 
 /* The record as the host sees it, and a word put there by the host itself. */
 uint32_t pair_word(uint32_t word);

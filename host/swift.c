@@ -1,8 +1,12 @@
 /*
- * The engine in C as one would write it for speed: words of 32 bits, shifts
- * for divisions, one pass over the record to check it, a table for codes. It
- * makes the same checks as the library and is compared with the reference
- * model too, so that the measure itself is known to be right.
+ * The engine in C as one would write it for speed, in the order of the rules:
+ * words of 32 bits, shifts for divisions, a table for codes, vectors of
+ * sixteen bytes where the same is done to many words. It makes the same checks
+ * as the library and is compared with the reference model too, so that the
+ * measure itself is known to be right.
+ *
+ * It is built by more than one compiler: ENGINE is the table of calls that a
+ * build gives, NAME what it is called.
  *
  * Shifting a negative number right is left to the compiler by the language;
  * every compiler that this is for keeps the sign, which rounds down.
@@ -11,6 +15,8 @@
 
 #include "reference.h"
 #include "swift.h"
+
+#define UNFOLD inline __attribute__((always_inline))
 
 /* ==== the check =========================================================== */
 
@@ -28,24 +34,62 @@ static const uint32_t shared_stray[RECORD_WORDS - WORD_PAGE] = {
     ~0x7FFFFFu, ~0x7FFFFFu, ~0x7FFFFFu, ~0x7FFFFFu, ~0x7FFFFFu
 };
 
-static uint32_t check(const uint32_t *record, size_t words)
+typedef uint32_t four __attribute__((vector_size(16)));
+
+static UNFOLD four four_at(const uint32_t *words)
 {
-    uint32_t stray = 0;
+    four all;
+
+    memcpy(&all, words, sizeof all);
+    return all;
+}
+
+/* The bits of four words, of eight voices and of all. */
+static UNFOLD four eight(const uint32_t *words)
+{
+    return four_at(words) | four_at(words + VOICE_WORDS) |
+           four_at(words + 2 * VOICE_WORDS) | four_at(words + 3 * VOICE_WORDS) |
+           four_at(words + 4 * VOICE_WORDS) | four_at(words + 5 * VOICE_WORDS) |
+           four_at(words + 6 * VOICE_WORDS) | four_at(words + 7 * VOICE_WORDS);
+}
+
+static UNFOLD four gather(const uint32_t *words)
+{
+    return eight(words) | eight(words + 8 * VOICE_WORDS) |
+           eight(words + 16 * VOICE_WORDS) | eight(words + 24 * VOICE_WORDS);
+}
+
+/* A word keeps the same bits in every voice, so all voices' bits are gathered
+   and held against the mask once; so are those of the twelve channel sums. */
+static UNFOLD four stray_bits(const uint32_t *record)
+{
+    const uint32_t *shared = record + WORD_PAGE;
+    const uint32_t *sums = record + WORD_CHANNEL;
+    four stray = (four_at(sums) | four_at(sums + 4) | four_at(sums + 8)) &
+                 four_at(shared_stray + WORD_CHANNEL - WORD_PAGE);
+
+    stray |= gather(record) & four_at(voice_stray);
+    stray |= gather(record + 4) & four_at(voice_stray + 4);
+    stray |= gather(record + 8) & four_at(voice_stray + 8);
+    stray |= gather(record + 12) & four_at(voice_stray + 12);
+    stray |= gather(record + 16) & four_at(voice_stray + 16);
+    stray |= four_at(shared) & four_at(shared_stray);
+    stray |= four_at(shared + 4) & four_at(shared_stray + 4);
+    return stray | (four_at(shared + 8) & four_at(shared_stray + 8));
+}
+
+static inline uint32_t check(const uint32_t *record, size_t words)
+{
+    four stray;
     uint32_t vector;
 
     if (words != RECORD_WORDS) {
         return ANSWER_RECORD_LENGTH;
     }
-    for (size_t voice = 0; voice < WORD_PAGE; voice += VOICE_WORDS) {
-        for (size_t word = 0; word < VOICE_WORDS; word++) {
-            stray |= record[voice + word] & voice_stray[word];
-        }
-    }
-    for (size_t word = WORD_PAGE; word < RECORD_WORDS; word++) {
-        stray |= record[word] & shared_stray[word - WORD_PAGE];
-    }
+    stray = stray_bits(record);
     vector = record[WORD_IRQV];
-    if (stray != 0 || (vector >= VOICES && vector != NO_INTERRUPT)) {
+    if ((stray[0] | stray[1] | stray[2] | stray[3]) != 0 ||
+        (vector >= VOICES && vector != NO_INTERRUPT)) {
         return ANSWER_RECORD_INVALID;
     }
     return ANSWER_DONE;
@@ -53,7 +97,7 @@ static uint32_t check(const uint32_t *record, size_t words)
 
 /* ==== registers =========================================================== */
 
-uint32_t swift_reset(uint32_t *record, size_t words)
+static uint32_t reset(uint32_t *record, size_t words)
 {
     if (words != RECORD_WORDS) {
         return ANSWER_RECORD_LENGTH;
@@ -89,7 +133,7 @@ static uint32_t word_of(uint32_t page, uint32_t number)
     return WORD_CHANNEL + number; /* number 12 is RECORD_WORDS */
 }
 
-uint32_t swift_write(uint32_t *record, size_t words, uint32_t address,
+static uint32_t write(uint32_t *record, size_t words, uint32_t address,
                      uint8_t value)
 {
     uint32_t answer = check(record, words);
@@ -130,7 +174,7 @@ static void open_register(uint32_t *record, uint32_t word)
     }
 }
 
-uint32_t swift_read(uint32_t *record, size_t words, uint32_t address,
+static uint32_t read(uint32_t *record, size_t words, uint32_t address,
                     uint8_t *byte)
 {
     uint32_t answer = check(record, words);
@@ -149,7 +193,7 @@ uint32_t swift_read(uint32_t *record, size_t words, uint32_t address,
     return ANSWER_DONE;
 }
 
-uint32_t swift_set_pot(uint32_t *record, size_t words, uint32_t pot)
+static uint32_t set_pot(uint32_t *record, size_t words, uint32_t pot)
 {
     uint32_t answer = check(record, words);
 
@@ -178,12 +222,12 @@ static const int16_t values[256] = {
     OCTAVE(4),  OCTAVE(5),    OCTAVE(6), OCTAVE(7)
 };
 
-int16_t swift_expand(uint8_t code)
+static int16_t expand(uint8_t code)
 {
     return values[code];
 }
 
-uint8_t swift_compress(int16_t sample)
+static uint8_t compress(int16_t sample)
 {
     uint32_t size = (uint32_t)(sample ^ (sample >> 15));
     uint32_t top = size >> 8;
@@ -206,24 +250,22 @@ static int32_t hold(int32_t value, int32_t least, int32_t greatest)
     return value < least ? least : value > greatest ? greatest : value;
 }
 
-static int32_t fetch(const uint16_t *memory, size_t memory_words, uint32_t at,
-                     uint32_t cr)
+static uint32_t fetch(const uint16_t *memory, size_t memory_words, uint32_t at)
 {
-    uint32_t word = at < memory_words ? memory[at] : 0;
-
-    return (cr & CR_CMPD) != 0 ? values[word >> 8] : (int16_t)word;
+    return at < memory_words ? memory[at] : 0;
 }
 
-static int32_t sample_of(const uint32_t *voice, const uint16_t *memory,
+static int32_t sample_of(uint32_t cr, uint32_t accum, const uint16_t *memory,
                          size_t memory_words)
 {
-    uint32_t cr = voice[VOICE_CR];
-    uint32_t accum = voice[VOICE_ACCUM];
     uint32_t bank = (cr >> 14) * BANK_WORDS;
     uint32_t index = accum >> 11;
     uint32_t next = (index + 1) % BANK_WORDS;
-    int32_t s1 = fetch(memory, memory_words, bank + index, cr);
-    int32_t s2 = fetch(memory, memory_words, bank + next, cr);
+    uint32_t w1 = fetch(memory, memory_words, bank + index);
+    uint32_t w2 = fetch(memory, memory_words, bank + next);
+    int coded = (cr & CR_CMPD) != 0;
+    int32_t s1 = coded ? values[w1 >> 8] : (int16_t)w1;
+    int32_t s2 = coded ? values[w2 >> 8] : (int16_t)w2;
 
     return 4 * s1 + (((int32_t)(accum >> 2 & 511) * (s2 - s1)) >> 7);
 }
@@ -238,9 +280,29 @@ static int32_t high(int32_t k, int32_t x, int32_t xp, int32_t yp)
     return hold(x - xp + ((k * yp) >> 12), -131072, 131071);
 }
 
-static int32_t filter(uint32_t *voice, int32_t x)
+/* Poles 3 and 4 are of four kinds together: one switch for both. */
+static UNFOLD int32_t last_poles(uint32_t cr, int32_t k1, int32_t k2,
+                                 int32_t y2, int32_t p2, int32_t p3,
+                                 int32_t p4, int32_t *y3)
 {
-    uint32_t cr = voice[VOICE_CR];
+    switch (cr & (CR_LP4 | CR_LP3)) {
+    case 0:
+        *y3 = high(k2, y2, p2, p3);
+        return high(k2, *y3, p3, p4);
+    case CR_LP3:
+        *y3 = low(k1, y2, p3);
+        return high(k2, *y3, p3, p4);
+    case CR_LP4:
+        *y3 = low(k2, y2, p3);
+        return low(k2, *y3, p4);
+    default:
+        *y3 = low(k1, y2, p3);
+        return low(k2, *y3, p4);
+    }
+}
+
+static int32_t filter(uint32_t *voice, uint32_t cr, int32_t x)
+{
     int32_t k1 = (int32_t)(voice[VOICE_K1] >> 4);
     int32_t k2 = (int32_t)(voice[VOICE_K2] >> 4);
     int32_t p2 = number(voice[VOICE_O2_N1], 18);
@@ -248,13 +310,12 @@ static int32_t filter(uint32_t *voice, int32_t x)
     int32_t p4 = number(voice[VOICE_O4_N1], 18);
     int32_t y1 = low(k1, x, number(voice[VOICE_O1_N1], 18));
     int32_t y2 = low(k1, y1, p2);
-    int32_t y3 = (cr & CR_LP3) != 0   ? low(k1, y2, p3)
-                 : (cr & CR_LP4) != 0 ? low(k2, y2, p3)
-                                      : high(k2, y2, p2, p3);
-    int32_t y4 = (cr & CR_LP4) != 0 ? low(k2, y3, p4) : high(k2, y3, p3, p4);
+    int32_t y3;
+    int32_t y4;
 
     voice[VOICE_O3_N2] = voice[VOICE_O3_N1];
     voice[VOICE_O2_N2] = voice[VOICE_O2_N1];
+    y4 = last_poles(cr, k1, k2, y2, p2, p3, p4, &y3);
     voice[VOICE_O1_N1] = (uint32_t)y1 & 0x3FFFFu;
     voice[VOICE_O2_N1] = (uint32_t)y2 & 0x3FFFFu;
     voice[VOICE_O3_N1] = (uint32_t)y3 & 0x3FFFFu;
@@ -291,9 +352,8 @@ static void loop(uint32_t *voice, uint32_t stop, uint32_t other, uint32_t back)
     voice[VOICE_CR] = cr | (cr & CR_IRQE) << 2;
 }
 
-static void move(uint32_t *voice)
+static void move(uint32_t *voice, uint32_t cr)
 {
-    uint32_t cr = voice[VOICE_CR];
     uint32_t start = voice[VOICE_START];
     uint32_t end = voice[VOICE_END];
     int64_t t = voice[VOICE_ACCUM];
@@ -340,27 +400,63 @@ static void ramps(uint32_t *voice, uint32_t slow)
     }
 }
 
-static void run(uint32_t *record, uint32_t *voice, const uint16_t *memory,
-                size_t memory_words)
+/* What a running voice does after the filters: volume, address and ramps. */
+static void run(uint32_t *record, uint32_t *voice, uint32_t cr, uint32_t slow,
+                int32_t o)
 {
-    int32_t o4 = filter(voice, sample_of(voice, memory, memory_words));
-    uint32_t channel = voice[VOICE_CR] >> 10 & 7;
+    uint32_t channel = cr >> 10 & 7;
 
     if (channel < 6) {
         uint32_t *sums = record + WORD_CHANNEL + 2 * channel;
 
-        add(&sums[0], o4 >> 2, voice[VOICE_LVOL]);
-        add(&sums[1], o4 >> 2, voice[VOICE_RVOL]);
+        add(&sums[0], o, voice[VOICE_LVOL]);
+        add(&sums[1], o, voice[VOICE_RVOL]);
     }
-    move(voice);
-    ramps(voice, record[WORD_SLOW]);
+    move(voice, cr);
+    ramps(voice, slow);
 }
 
-uint32_t swift_frame(uint32_t *record, size_t words, const uint16_t *memory,
-                     size_t memory_words, int32_t *output,
-                     size_t output_values)
+static UNFOLD void turn(uint32_t *record, uint32_t v, uint32_t slow,
+                        const uint16_t *memory, size_t memory_words)
+{
+    uint32_t *voice = record + v * VOICE_WORDS;
+    uint32_t cr = voice[VOICE_CR];
+    int runs = (cr & (CR_STP0 | CR_STP1)) == 0;
+    int32_t x = 0;
+    int32_t o;
+
+    if (runs) {
+        x = sample_of(cr, voice[VOICE_ACCUM], memory, memory_words);
+    }
+    o = filter(voice, cr, x) >> 2;
+    if (runs) {
+        run(record, voice, cr, slow, o);
+    }
+    if ((voice[VOICE_CR] & CR_IRQ) != 0 && record[WORD_IRQV] == NO_INTERRUPT) {
+        record[WORD_IRQV] = v;
+    }
+}
+
+static void close_frame(uint32_t *record, int32_t *output)
+{
+    int32_t held[OUTPUT_VALUES];
+
+    for (size_t place = 0; place < OUTPUT_VALUES; place++) {
+        held[place] =
+            hold(number(record[WORD_CHANNEL + place], 23), -524288, 524287);
+    }
+    memcpy(output, held, sizeof held);
+    memset(record + WORD_CHANNEL, 0, sizeof held);
+    record[WORD_SLOW] = (record[WORD_SLOW] + 1) & 7;
+}
+
+static uint32_t frame(uint32_t *record, size_t words, const uint16_t *memory,
+                      size_t memory_words, int32_t *output,
+                      size_t output_values)
 {
     uint32_t answer = check(record, words);
+    uint32_t active;
+    uint32_t slow;
 
     if (answer != ANSWER_DONE) {
         return answer;
@@ -371,24 +467,14 @@ uint32_t swift_frame(uint32_t *record, size_t words, const uint16_t *memory,
     if (output_values != OUTPUT_VALUES) {
         return ANSWER_OUTPUT_LENGTH;
     }
-    for (uint32_t v = 0; v <= record[WORD_ACTV]; v++) {
-        uint32_t *voice = record + v * VOICE_WORDS;
-
-        if ((voice[VOICE_CR] & (CR_STP0 | CR_STP1)) == 0) {
-            run(record, voice, memory, memory_words);
-        } else {
-            filter(voice, 0);
-        }
-        if ((voice[VOICE_CR] & CR_IRQ) != 0 &&
-            record[WORD_IRQV] == NO_INTERRUPT) {
-            record[WORD_IRQV] = v;
-        }
+    active = record[WORD_ACTV] + 1;
+    slow = record[WORD_SLOW];
+    for (uint32_t v = 0; v < active; v++) {
+        turn(record, v, slow, memory, memory_words);
     }
-    for (size_t place = 0; place < OUTPUT_VALUES; place++) {
-        output[place] =
-            hold(number(record[WORD_CHANNEL + place], 23), -524288, 524287);
-        record[WORD_CHANNEL + place] = 0;
-    }
-    record[WORD_SLOW] = (record[WORD_SLOW] + 1) & 7;
+    close_frame(record, output);
     return ANSWER_DONE;
 }
+
+const struct engine ENGINE = { NAME,    reset, write,    read,
+                               set_pot, frame, compress, expand };

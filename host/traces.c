@@ -29,7 +29,7 @@ static const size_t output_lengths[] = { 0, 1, 11, 13, 24, 32 };
 
 void trace_prepare(void)
 {
-    pair_start(0);
+    pair_start(0, 0);
     for (uint32_t word = 0; word < WORDS; word++) {
         uint32_t old = pair_word(word);
 
@@ -266,15 +266,17 @@ static void walk_banks(void)
 
 void trace_walks(void)
 {
-    pair_start(0);
-    random_seed(0);
+    for (uint32_t behind = 0; behind <= MOST_BEHIND; behind++) {
+        pair_start(0, behind);
+        random_seed(0);
+        walk_lengths();
+        walk_limits();
+        walk_damage();
+        walk_registers();
+        walk_loops();
+        walk_banks();
+    }
     walk_codes();
-    walk_lengths();
-    walk_limits();
-    walk_damage();
-    walk_registers();
-    walk_loops();
-    walk_banks();
 }
 
 /* ==== random calls ======================================================== */
@@ -359,7 +361,7 @@ static void other_calls(void)
 
 void trace_random(uint64_t seed)
 {
-    pair_start(seed);
+    pair_start(seed, (uint32_t)(seed % (MOST_BEHIND + 1)));
     random_seed(seed);
     memory_words = memory_lengths[random_below(COUNT(memory_lengths) - 1)];
     set_all_voices();
