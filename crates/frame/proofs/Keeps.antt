@@ -1,34 +1,30 @@
 -- A turn keeps a valid record valid, and leaves what is not its own: the other voices, and the words above but the sums and the vector.
 -- In order: the ranges of a valid record's voices; a voice's words after a turn; a sum; the interrupt step; the turn; the turns; the
 -- closing. Assumes nothing.
-use mathlib.Core.Path.{_≡_, refl, sym, ap, subst, _∙_}
-use mathlib.Core.Bool.{Bool, true, false, cond, _&&_}
-use mathlib.Core.List.{List, [], _∷_, _++_}
-use mathlib.Core.Logic.{_≢_}
-use Prim.Native.Nat.{ℕ, zero, suc, _+_, _-_, _*_, _%_, _^_, _<_, _≤_}
-use native.Mathlib.Nat.{mod-eq-of-lt, mod-lt, not-suc-le-zero}
+use mathlib.Core.Path.{_≡_, refl, subst, _∙_}
+use mathlib.Core.Bool.{Bool, true, _&&_}
+use mathlib.Core.List.{List, [], _∷_}
+use Prim.Native.Nat.{ℕ, zero, suc, _+_, _-_, _*_, _^_, _<_, _≤_}
+use native.Mathlib.Nat.{mod-eq-of-lt, mod-lt}
 use native.Mathlib.Omega.{arith}
 use borrow.Author.Tests.{lt-ltb, ltb-true}
 use lib.Bits.{bitAnd, and-mask, and-le-r}
 use lib.Dec.{T, eqb, ltb, eqb→eq, lit<}
 use lib.IntN.{ℤ}
-use lib.ListN.{length, getD, set, take, drop}
+use lib.ListN.{length, getD}
 use Rattle.numbers.specs.Numbers.{word}
 use Rattle.numbers.proofs.Tests.{either, all, all-at}
-use Rattle.numbers.proofs.Words.{word-lt}
 use Rattle.control.specs.Control.{flagOf, channelOf, IRQ}
 use Rattle.channel.specs.Channel.{mixed}
 use Rattle.channel.proofs.Laws.{mixed-is}
 use Rattle.machine.specs.Words.{voiceBits, aboveBits, bitsOf, cut, isVector, ACTV, IRQV, SLOW, SUMS}
-use Rattle.machine.specs.Voices.{voiceAt, putVoice}
-use Rattle.machine.proofs.Parts.{voice-length, voice-word, put-length, put-other, put-out, put-same, voice-set-out}
+use Rattle.machine.specs.Voices.{voiceAt}
 use Rattle.machine.proofs.Valid.{Sound, sound-set, sound-put, sound-voice, word-le}
 use Rattle.voice.specs.Turn.{turnOf}
 use Rattle.voice.specs.Ranges.{Ranges}
 use Rattle.voice.specs.Voice.{Voice, voiceOf, wordsOf}
 use Rattle.voice.proofs.Keeps.{Places, Follows, turn-follows}
 use Rattle.frame.specs.Frame.{summed, added, signalled, turned, turnAt, turns, played}
-use Rattle.frame.proofs.Steps.{added-in, added-none, summed-length, summed-other}
 
 -- ---- the voices of a valid record
 

@@ -7,13 +7,12 @@ use Prim.Native.Nat.{ℕ, _+_, _*_, _%_, _<_, _≤_}
 use native.Mathlib.Omega.{arith}
 use borrow.Author.Tests.{ltb-true}
 use lib.Dec.{ltb, lit<, lit≤}
-use lib.IntN.{ℤ, pos}
+use lib.IntN.{pos}
 use lib.ListN.{length, getD, set, take, drop}
 use lib.Seq.{set-getD}
 use Rattle.numbers.specs.Numbers.{floorMod, word}
 use Rattle.numbers.proofs.Tests.{either, split}
 use Rattle.control.specs.Control.{channelOf, runs}
-use Rattle.channel.specs.Channel.{mixed}
 use Rattle.channel.proofs.Laws.{mixed-is}
 use Rattle.machine.specs.Words.{SLOW, SUMS}
 use Rattle.machine.specs.Voices.{voiceAt, putVoice}

@@ -1,6 +1,6 @@
 // The sample of a voice: the two words that it fetches from sample memory, what they stand for, and the value between them.
 ghost use mathlib.Core.Path.{_≡_};
-ghost use Prim.Native.Nat.{_+_, _*_, _<_, _≤_};
+ghost use Prim.Native.Nat.{_+_, _*_, _<_};
 ghost use lib.ListN.{length};
 ghost use Rattle.numbers.specs.Numbers.{Bits};
 ghost use Rattle.codes.specs.Codes.{Expands};

@@ -1,7 +1,7 @@
 -- What a turn leaves of a voice: the registers that it does not touch are as they were, and those that it does keep their ranges.
 -- Assumes nothing.
-use mathlib.Core.Path.{_≡_, refl, sym, subst}
-use mathlib.Core.Bool.{cond, not, _&&_}
+use mathlib.Core.Path.{_≡_, refl}
+use mathlib.Core.Bool.{not, _&&_}
 use mathlib.Core.List.{List}
 use Prim.Native.Nat.{ℕ, _-_, _%_, _^_, _<_}
 use native.Mathlib.Omega.{arith}
@@ -11,7 +11,6 @@ use Rattle.numbers.proofs.Tests.{either, split}
 use Rattle.numbers.proofs.Words.{word-lt}
 use Rattle.control.specs.Control.{runs}
 use Rattle.filter.specs.Filter.{filtered}
-use Rattle.filter.specs.declared.Poles.{Poles}
 use Rattle.address.specs.Address.{stepped}
 use Rattle.address.proofs.Range.{stepped-small}
 use Rattle.ramp.specs.Ramp.{ramped, slowRamped}

@@ -11,7 +11,7 @@ use native.Mathlib.Nat.{mod-add-mod, add-mul-mod-self-right}
 use native.Mathlib.Omega.{arith}
 use borrow.Author.Tests.{lt-ltb, lt-leb}
 use lib.Dec.{eqb}
-use lib.IntN.{ℤ, pos, _-ℤ_}
+use lib.IntN.{pos, _-ℤ_}
 use lib.Signed.{ltZ}
 use Rattle.numbers.specs.Numbers.{floorMod, word}
 use Rattle.numbers.proofs.Tests.{split, cases}

@@ -3,9 +3,8 @@
 -- another. Assumes nothing.
 use mathlib.Core.Path.{_≡_, refl, sym, ap, subst, _∙_}
 use mathlib.Core.List.{List}
-use Prim.Native.Nat.{ℕ, _+_}
+use Prim.Native.Nat.{ℕ}
 use native.Mathlib.Nat.{zero-add}
-use native.Mathlib.Omega.{arith}
 use lib.IntN.{ℤ, pos}
 use lib.ListN.{length, getD, set, length-set}
 use lib.Seq.{ext-getD}
@@ -13,7 +12,7 @@ use Rattle.numbers.specs.Numbers.{word}
 use Rattle.numbers.proofs.Tests.{listed, listed-at}
 use Rattle.filter.specs.declared.Poles.{Poles}
 use Rattle.address.specs.declared.Place.{Place}
-use Rattle.voice.specs.Voice.{Voice, Levels, voiceOf, wordsOf}
+use Rattle.voice.specs.Voice.{Levels, voiceOf, wordsOf}
 use Rattle.voice.specs.Turn.{outputs, levels, withOutputs, moved, sampled, stoppedTurn, runningTurn}
 use Rattle.voice.specs.Ranges.{Ranges}
 use Rattle.voice.specs.Takes.{passing, placeOf, levelsOf, afterFilters, afterStep, afterRamps}

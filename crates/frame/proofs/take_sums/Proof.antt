@@ -4,7 +4,7 @@ use mathlib.Core.Path.{_≡_, refl, sym, _∙_}
 use mathlib.Core.List.{List}
 use Prim.Native.Nat.{ℕ, _-_, _≤_, _<_}
 use native.Mathlib.Omega.{arith}
-use lib.ListN.{length, getD, replicate, length-set, length-replicate, getD-replicate}
+use lib.ListN.{length, getD, replicate, length-set, getD-replicate}
 use lib.Seq.{getD-set-other, ext-getD}
 use Rattle.numbers.proofs.Tests.{filled-on}
 use Rattle.frame.proofs.take_sums.Statement.{statement}

@@ -1,17 +1,13 @@
 -- `voice::pass` meets its contract: the old outputs move back, which the filters do not hear of, and the new ones are stored.
 -- Assumes nothing.
-use mathlib.Core.Path.{_≡_, sym, ap, subst, _∙_}
-use mathlib.Core.List.{List}
-use Prim.Native.Nat.{ℕ}
+use mathlib.Core.Path.{_≡_, ap, _∙_}
 use native.Mathlib.Omega.{arith}
 use borrow.Author.Needs.{needs}
 use lib.Dec.{lit≤}
-use lib.IntN.{ℤ}
 use lib.ListN.{length-set}
 use mir.Syntax.{w32}
-use Rattle.numbers.specs.Numbers.{word, Bits}
+use Rattle.numbers.specs.Numbers.{word}
 use Rattle.numbers.proofs.Local.{held, within, bits-held}
-use Rattle.filter.specs.Filter.{filtered}
 use Rattle.filter.specs.declared.Poles.{Poles}
 use Rattle.voice.specs.Voice.{voiceOf, wordsOf}
 use Rattle.voice.specs.Turn.{outputs, withOutputs}

@@ -1,11 +1,11 @@
 -- `voice::ramps` meets its contract, by whether ECOUNT is 0. Assumes nothing.
-use mathlib.Core.Path.{_≡_, sym, ap, _∙_}
+use mathlib.Core.Path.{sym, ap, _∙_}
 use native.Mathlib.Omega.{arith}
 use borrow.Author.Needs.{needs}
 use lib.ListN.{length-set}
 use Rattle.voice.specs.Voice.{Levels, voiceOf, wordsOf}
-use Rattle.voice.specs.Turn.{levels, moved}
-use Rattle.voice.specs.Takes.{placeOf, levelsOf, afterRamps}
+use Rattle.voice.specs.Turn.{moved}
+use Rattle.voice.specs.Takes.{placeOf, afterRamps}
 use Rattle.voice.proofs.Laws.{levels-rest, levels-move}
 use Rattle.voice.proofs.Words.{levels-stored, levels-left}
 use Rattle.voice.proofs.ramps.Statement.{statement}

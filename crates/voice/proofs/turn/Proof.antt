@@ -1,8 +1,8 @@
 -- `voice::turn` meets its contract: its parts, one after another, are the turn. Assumes nothing.
 use mathlib.Core.Path.{_≡_, refl, sym, ap, subst, _∙_}
-use mathlib.Core.Bool.{true, false, cond}
+use mathlib.Core.Bool.{true, false}
 use mathlib.Core.List.{List}
-use Prim.Native.Nat.{ℕ, _<_}
+use Prim.Native.Nat.{ℕ}
 use borrow.Author.Needs.{needs}
 use lib.Dec.{lit≤}
 use lib.IntN.{ℤ, pos}
@@ -10,14 +10,14 @@ use lib.ListN.{length, getD}
 use denote.Ref.{now}
 use mir.Syntax.{w32}
 use mir.Val.{toZ, ofZ}
-use Rattle.numbers.specs.Numbers.{Within, Bits}
+use Rattle.numbers.specs.Numbers.{Within}
 use Rattle.numbers.proofs.Local.{back, handed, bits-back}
 use Rattle.control.specs.Control.{runs}
 use Rattle.volume.specs.Volume.{panned}
-use Rattle.voice.specs.Voice.{Voice, Levels, Turn, voiceOf, wordsOf}
-use Rattle.voice.specs.Turn.{sampled, runningTurn, stoppedTurn, turnOf}
-use Rattle.voice.specs.Ranges.{Ranges, Leveled}
-use Rattle.voice.specs.Takes.{passing, levelsOf, afterFilters, afterStep, afterRamps, Passes}
+use Rattle.voice.specs.Voice.{Turn, voiceOf, wordsOf}
+use Rattle.voice.specs.Turn.{sampled, runningTurn, stoppedTurn}
+use Rattle.voice.specs.Ranges.{Leveled}
+use Rattle.voice.specs.Takes.{passing, levelsOf, afterFilters, afterStep, afterRamps}
 use Rattle.voice.proofs.Laws.{turn-runs, turn-stands}
 use Rattle.voice.proofs.Words.{filters-length, step-length, filters-control, filters-levels, step-levels, parts-run, parts-stand}
 use Rattle.voice.proofs.turn.Statement.{statement}

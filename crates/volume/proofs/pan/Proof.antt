@@ -1,17 +1,17 @@
 -- `volume::pan` meets its contract: each operation fits its type, so the machine's numbers are the rule's, and one shift is its two
 -- divisions. Assumes nothing.
-use mathlib.Core.Path.{_≡_, sym, ap, subst, _∙_}
+use mathlib.Core.Path.{_≡_, sym, subst, _∙_}
 use Prim.Native.Nat.{ℕ, _+_, _*_, _/_, _%_, _^_, _<_}
 use native.Mathlib.Nat.{mod-eq-of-lt}
 use native.Mathlib.Omega.{arith}
 use borrow.Author.Needs.{needs}
-use lib.IntN.{ℤ, pos, _*ℤ_}
+use lib.IntN.{pos}
 use lib.Signed.{shrZ}
 use mir.Syntax.{w32, w64}
 use mir.Val.{toZ, ofZ}
-use Rattle.numbers.specs.Numbers.{Within, Bits, floorDiv}
+use Rattle.numbers.specs.Numbers.{Within, floorDiv}
 use Rattle.numbers.proofs.Within.{widen}
-use Rattle.numbers.proofs.Local.{Num, Done, held, ranged, nat, mul, shr, cast, share3}
+use Rattle.numbers.proofs.Local.{Num, Done, held, nat, mul, shr, cast}
 use Rattle.volume.specs.Volume.{panned, mantissa, exponent}
 use Rattle.volume.proofs.Laws.{gain, gain-le, one-division}
 use Rattle.volume.proofs.pan.Statement.{statement}
