@@ -1,6 +1,6 @@
 // One turn of a voice on its own twenty words, which are lent as a part of the record: sample, filters, volume, address and ramps, as the
 // control register says. The turn does not know the voice's number, so which voice plays cannot be heard in it.
-// No word is stored that the turn leaves as it is, and no copy of the voice is made.
+// The words are read and stored where they stand: no copy of the voice is made.
 ghost use mathlib.Core.Path.{_≡_};
 ghost use mathlib.Core.Bool.{cond};
 ghost use Prim.Native.Nat.{_<_};
@@ -157,7 +157,7 @@ fn step(w: &mut [u32], cr: u32)
     if control::flag(control::DIR, cr) {
         let t = accum as i64 - fc as i64;
         if t < w[START] as i64 {
-            event(w, cr, fc, accum);
+            step_past(w, cr, fc, accum);
         } else {
             w[ACCUM] = t as u32;
         }
@@ -166,13 +166,13 @@ fn step(w: &mut [u32], cr: u32)
         if t <= w[END] as u64 {
             w[ACCUM] = t as u32;
         } else {
-            event(w, cr, fc, accum);
+            step_past(w, cr, fc, accum);
         }
     }
 }
 
-// The step of a voice that would pass a loop point, or heeds none.
-fn event(w: &mut [u32], cr: u32, fc: u32, accum: u32)
+// The step that passes a loop point, whether the voice heeds it or not.
+fn step_past(w: &mut [u32], cr: u32, fc: u32, accum: u32)
     requires { ⌜ length (now w) ≡ 20 ⌝ }
     requires { ⌜ (cr ≡ getD (now w) 0 0) × (cr < 65536) ⌝ }
     requires { ⌜ (fc ≡ getD (now w) 1 0) × (accum ≡ getD (now w) 13 0) ⌝ }

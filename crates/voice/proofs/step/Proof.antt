@@ -1,4 +1,4 @@
--- `voice::step` meets its contract: within the loop points ACCUM moves by FC and nothing else does; elsewhere it is `event`'s matter.
+-- `voice::step` meets its contract: within the loop points ACCUM moves by FC and nothing else does; elsewhere it is `step_past`'s matter.
 -- Assumes nothing.
 use mathlib.Core.Path.{_≡_, sym, ap, _∙_}
 use mathlib.Core.List.{List}
