@@ -1,5 +1,6 @@
--- The check's accumulator of stray bits: it is 0 where every word has only bits that it keeps, one word more at a time; words gathered into
--- one have stray bits where one of them has; and the four lanes, which are 0 where one accumulator would be. Assumes nothing.
+-- The check's lanes of stray bits. In order: an accumulator, which is 0 where every word that joined it has only bits that it keeps; words
+-- gathered into one, which have stray bits where one of them has; the bits kept, by the tables; the four lanes, which are 0 where one
+-- accumulator would be. Assumes nothing.
 use mathlib.Core.Path.{_≡_, refl, sym, ap, ap₂, _∙_}
 use mathlib.Core.Bool.{Bool, true, false, _&&_, and-assoc, and-true, and-false, and-comm as &&-comm}
 use mathlib.Core.List.{List, [], _∷_}
@@ -8,13 +9,13 @@ use native.Mathlib.Nat.{not-suc-le-zero, le-of-suc-le-suc}
 use native.Mathlib.Numerals.{add-one}
 use native.Mathlib.Omega.{arith}
 use lib.Arith.{bin-ind}
-use lib.Bits.{bitAnd, bitOr, bitXor, and-step, or-step, or-add-and, xor-add-and, and-comm, and-le-l, and-le-r, xor-self, or-zero-l, and-zero-l}
+use lib.Bits.{bitAnd, bitOr, bitXor, and-step, or-step, or-add-and, xor-add-and, and-comm, and-le-l, and-le-r, xor-self, or-zero-l}
 use lib.Dec.{eqb, eqb→eq}
 use lib.ListN.{length, getD, set, length-set}
-use borrow.Author.Tests.{eq-eqb, ne-eqb, eqb-true, eqb-false}
+use borrow.Author.Tests.{eq-eqb, ne-eqb, eqb-true, eqb-false, le-ltb}
 use Rattle.numbers.proofs.Tests.{all-at}
-use Rattle.machine.specs.Words.{SUMS, bits, voiceBits, bitsOf}
-use Rattle.machine.specs.Kept.{among, keptTo, gathered, inVoices, inSums, gatheredKept, sumsKept, clear, Lanes}
+use Rattle.machine.specs.Words.{ABOVE, PAGE, SUMS, bits, voiceBits, aboveBits, bitsOf}
+use Rattle.machine.specs.Kept.{among, keptAt, gathered, inVoices, inSums, gatheredKept, sumsKept, threeKept, aboveKept, clear, Lanes}
 
 or-zero : (a b : ℕ) → bitOr a b ≡ 0 → (a ≡ 0) × (b ≡ 0)
 or-zero a b h = omega (arith, or-add-and a b, and-le-l a b, and-le-r a b)
@@ -27,30 +28,32 @@ same-test : (a b c d : ℕ) → (a ≡ b → c ≡ d) → (c ≡ d → a ≡ b) 
 same-test a b c d f g true h = eq-eqb a b (g (eqb-true c d h))
 same-test a b c d f g false h = ne-eqb a b (λ e. eqb-false c d h (f e))
 
--- two accumulators in one
-or-test : (a b : ℕ) (t u : Bool) → eqb a 0 ≡ t → eqb b 0 ≡ u → eqb (bitOr a b) 0 ≡ (t && u)
-or-test a b true u h k = rw (eqb-true a 0 h, or-zero-l) k
-or-test a b false u h k = ne-eqb (bitOr a b) 0 (λ e. eqb-false a 0 h (or-zero a b e .0))
-
 -- two tests joined with two others, pair by pair
 pairwise : (a b c d : Bool) → ((a && b) && (c && d)) ≡ ((a && c) && (b && d))
 pairwise true true c d = refl
 pairwise true false c d = sym (and-false c)
 pairwise false b c d = refl
 
--- the stray bits of one word
-stray-test : (x k : ℕ) → eqb (bitXor x (bitAnd x k)) 0 ≡ among x k
-stray-test x k =
-    same-test (bitXor x (bitAnd x k)) 0 (bitAnd x k) x (λ e. sym (xor-zero x (bitAnd x k) e)) (λ e. rw (e, xor-self)) (among x k) refl
+-- an accumulator, which is 0 where the test t passes and only there
+record Tells (a : ℕ) (t : Bool) : Type 0 where
+  tells : eqb a 0 ≡ t
 
--- they join those in an accumulator
-joins : (acc x k : ℕ) (t : Bool) → eqb acc 0 ≡ t → eqb (bitOr acc (bitXor x (bitAnd x k))) 0 ≡ (t && among x k)
-joins acc x k t h = or-test acc (bitXor x (bitAnd x k)) t (among x k) h (stray-test x k)
+itself : (a : ℕ) → Tells a (eqb a 0)
+itself a = record { tells = refl }
 
-pub one-word-more : (w k : List ℕ) (i acc : ℕ) → eqb acc 0 ≡ keptTo w k i
-    → eqb (bitOr acc (bitXor (getD w i 0) (bitAnd (getD w i 0) (getD k i 0)))) 0 ≡ keptTo w k (i + 1)
-unfolding keptTo
-one-word-more w k i acc h = rw add-one (joins acc (getD w i 0) (getD k i 0) (keptTo w k i) h)
+-- two in one
+joins : {a b : ℕ} {t u : Bool} → Tells a t → Tells b u → Tells (bitOr a b) (t && u)
+joins {a} {b} {t = true} p q = record { tells = rw (eqb-true a 0 (p .tells), or-zero-l) (q .tells) }
+joins {a} {b} {t = false} p q = record { tells = ne-eqb (bitOr a b) 0 (λ e. eqb-false a 0 (p .tells) (or-zero a b e .0)) }
+
+-- the stray bits of one word: those of x that are not among those of k
+abbrev stray : ℕ → ℕ → ℕ
+stray x k = bitXor x (bitAnd x k)
+
+strays : (x k : ℕ) → Tells (stray x k) (among x k)
+strays x k = record {
+  tells = same-test (stray x k) 0 (bitAnd x k) x (λ e. sym (xor-zero x (bitAnd x k) e)) (λ e. rw (e, xor-self)) (among x k) refl;
+}
 
 -- ---- several words at once
 
@@ -69,7 +72,7 @@ and-again =
     ∙ ap₂ (λ (p q : ℕ). p * 2 + q) (ih (m / 2)) low ∙ sym (and-step n m))
 
 -- stray bits by subtraction; those of two words together are those of each
-stray-less : (x k : ℕ) → bitXor x (bitAnd x k) ≡ x - bitAnd x k
+stray-less : (x k : ℕ) → stray x k ≡ x - bitAnd x k
 stray-less x k =
     let e : bitAnd x (bitAnd x k) ≡ bitAnd x k = and-comm x (bitAnd x k) ∙ ap (λ (y : ℕ). bitAnd y x) (and-comm x k) ∙ and-again k x ∙ and-comm k x in
     omega (arith, xor-add-and x (bitAnd x k), e, and-le-l x k)
@@ -114,10 +117,9 @@ less-or =
 -- a bit is kept by both together where it is by each
 pub or-kept : (a b k : ℕ) → among (bitOr a b) k ≡ (among a k && among b k)
 or-kept a b k =
-    let e : bitXor (bitOr a b) (bitAnd (bitOr a b) k) ≡ bitOr (bitXor a (bitAnd a k)) (bitXor b (bitAnd b k)) =
+    let e : stray (bitOr a b) k ≡ bitOr (stray a k) (stray b k) =
     stray-less (bitOr a b) k ∙ less-or a b k ∙ sym (ap₂ bitOr (stray-less a k) (stray-less b k)) in
-    sym (stray-test (bitOr a b) k) ∙ ap (λ (x : ℕ). eqb x 0) e
-    ∙ or-test (bitXor a (bitAnd a k)) (bitXor b (bitAnd b k)) (among a k) (among b k) (stray-test a k) (stray-test b k)
+    sym (strays (bitOr a b) k .tells) ∙ ap (λ (x : ℕ). eqb x 0) e ∙ joins (strays a k) (strays b k) .tells
 
 -- one word more, the one at place k
 pub one-gathered : (m : List ℕ) (d i n k acc : ℕ) → k ≡ d * n + i → acc ≡ gathered m d i n → bitOr acc (getD m k 0) ≡ gathered m d i (n + 1)
@@ -130,10 +132,17 @@ three-sums m l =
     one-gathered m 4 (SUMS + l) 2 (SUMS + 8 + l) _ (omega arith)
     (one-gathered m 4 (SUMS + l) 1 (SUMS + 4 + l) _ (omega arith) (one-gathered m 4 (SUMS + l) 0 (SUMS + l) 0 (omega arith) refl))
 
+-- ---- the bits kept
+
 -- the last four words of the voices keep the same bits
 pub last-bits : (l : ℕ) → l < 4 → bits 17 0 ≡ getD voiceBits (16 + l) 0
 unfolding voiceBits
 last-bits l h = eqb→eq (bits 17 0) (getD voiceBits (16 + l) 0) (all-at (λ k. eqb (bits 17 0) (getD voiceBits (16 + k) 0)) 4 tt l h)
+
+-- word i above the voices keeps what their table has at its place j
+above-bits : (i j : ℕ) → i ≡ PAGE + j → bitsOf i ≡ getD aboveBits j 0
+unfolding bitsOf
+above-bits i j e = let d : i - ABOVE ≡ j = omega arith in rw (le-ltb i ABOVE (omega arith), d)
 
 -- ---- the lanes
 
@@ -147,38 +156,54 @@ clear-set (x ∷ s) zero y u h e =
 clear-set (x ∷ s) (suc l) y u h e =
     ap (λ (b : Bool). eqb x 0 && b) (clear-set s l y u (le-of-suc-le-suc h) e) ∙ sym (and-assoc (eqb x 0) (clear s) u)
 
-one-lane : {s : List ℕ} {t : Bool} → Lanes s t → (l y : ℕ) (u : Bool) → l < 4 → eqb y 0 ≡ (eqb (getD s l 0) 0 && u) → Lanes (set s l y) (t && u)
-one-lane {s} p l y u h e = record {
+one-lane : {s : List ℕ} {t : Bool} → Lanes s t → (l y : ℕ) (u : Bool) → l < 4 → Tells y (eqb (getD s l 0) 0 && u) → Lanes (set s l y) (t && u)
+one-lane {s} p l y u h q = record {
   four = length-set s l y ∙ p .four;
-  tell = clear-set s l y u (omega (arith, p .four)) e ∙ ap (λ (b : Bool). b && u) (p .tell);
+  tell = clear-set s l y u (omega (arith, p .four)) (q .tells) ∙ ap (λ (b : Bool). b && u) (p .tell);
 }
 
 -- a word of the voices goes into lane l
 pub one-more-gathered : (m : List ℕ) (j l x k : ℕ) {s : List ℕ} → Lanes s (gatheredKept m j) → l < 4 → x ≡ inVoices m j → k ≡ getD voiceBits j 0
-    → Lanes (set s l (bitOr (getD s l 0) (bitXor x (bitAnd x k)))) (gatheredKept m (j + 1))
+    → Lanes (set s l (bitOr (getD s l 0) (stray x k))) (gatheredKept m (j + 1))
 unfolding gatheredKept
 one-more-gathered m j l x k {s} p h ex ek =
-    rw (add-one, ← ex, ← ek) (one-lane p l _ (among x k) h (joins (getD s l 0) x k (eqb (getD s l 0) 0) refl))
+    rw (add-one, ← ex, ← ek) (one-lane p l _ (among x k) h (joins (itself (getD s l 0)) (strays x k)))
 
--- and with it sum l and those 4 and 8 after it
-pub one-more-of-both : (m : List ℕ) (j l x k y : ℕ) {s : List ℕ} → Lanes s (gatheredKept m j && sumsKept m l) → l < 4
-    → x ≡ inVoices m j → k ≡ getD voiceBits j 0 → y ≡ inSums m l
-    → Lanes (set s l (bitOr (bitOr (getD s l 0) (bitXor x (bitAnd x k))) (bitXor y (bitAnd y (bitsOf SUMS))))) (gatheredKept m (j + 1) && sumsKept m (l + 1))
-unfolding gatheredKept sumsKept
-one-more-of-both m j l x k y {s} p h ex ek ey =
-    let old = eqb (getD s l 0) 0 in
+-- and with it sum l, word l from PAGE on, and those 4 and 8 after each
+pub one-more-of-all : (m w : List ℕ) (j l x k y : ℕ) {s : List ℕ} → Lanes s (gatheredKept m j && sumsKept m l && aboveKept m l) → l < 4
+    → x ≡ inVoices m j → k ≡ getD voiceBits j 0 → y ≡ inSums m l → w ≡ aboveBits
+    → Lanes (set s l
+    (bitOr (bitOr (bitOr (bitOr (bitOr (getD s l 0) (stray x k)) (stray y (bitsOf SUMS))) (stray (getD m (PAGE + l) 0) (getD w l 0)))
+    (stray (getD m (PAGE + 4 + l) 0) (getD w (4 + l) 0))) (stray (getD m (PAGE + 8 + l) 0) (getD w (8 + l) 0))))
+    (gatheredKept m (j + 1) && sumsKept m (l + 1) && aboveKept m (l + 1))
+unfolding gatheredKept sumsKept aboveKept
+one-more-of-all m w j l x k y {s} p h ex ek ey ew =
     let z = bitsOf SUMS in
-    rw (add-one j, add-one l, ← ex, ← ek, ← ey, ← (pairwise (gatheredKept m j) (sumsKept m l) (among x k) (among y z)))
-    (one-lane p l _ (among x k && among y z) h
-    (joins (bitOr (getD s l 0) (bitXor x (bitAnd x k))) y z (old && among x k) (joins (getD s l 0) x k old refl) ∙ and-assoc old (among x k) (among y z)))
+    let a = PAGE + l in
+    let b = PAGE + 4 + l in
+    let c = PAGE + 8 + l in
+    let word : (i : ℕ) → Tells (stray (getD m i 0) (bitsOf i)) (keptAt m i) = λ i. strays (getD m i 0) (bitsOf i) in
+    let q = joins (joins (joins (joins (joins (itself (getD s l 0)) (strays x k)) (strays y z)) (word a)) (word b)) (word c) in
+    rw (
+      add-one j,
+      add-one l,
+      ← ex,
+      ← ek,
+      ← ey,
+      ew,
+      ← (above-bits a l refl),
+      ← (above-bits b (4 + l) (omega arith)),
+      ← (above-bits c (8 + l) (omega arith)),
+      ← (pairwise (gatheredKept m j) (sumsKept m l) (among x k) (among y z)),
+      ← (pairwise (gatheredKept m j && sumsKept m l) (aboveKept m l) (among x k && among y z) (threeKept m l)),
+    )
+    (one-lane p l _ (among x k && among y z && threeKept m l) h (record { tells = q .tells ∙ simp and-assoc }))
 
 -- all lanes in one
 clear-four : (s : List ℕ) → length s ≡ 4 → eqb (bitOr (bitOr (bitOr (getD s 0 0) (getD s 1 0)) (getD s 2 0)) (getD s 3 0)) 0 ≡ clear s
 unfolding clear
 clear-four (a ∷ b ∷ c ∷ d ∷ []) h =
-    or-test (bitOr (bitOr a b) c) d (eqb a 0 && eqb b 0 && eqb c 0) (eqb d 0)
-    (or-test (bitOr a b) c (eqb a 0 && eqb b 0) (eqb c 0) (or-test a b (eqb a 0) (eqb b 0) refl refl) refl) refl
-    ∙ simp (and-assoc, and-true)
+    joins (joins (joins (itself a) (itself b)) (itself c)) (itself d) .tells ∙ simp (and-assoc, and-true)
 clear-four [] h = absurd (let z : ⊥ = omega arith in z)
 clear-four (a ∷ []) h = absurd (let z : ⊥ = omega arith in z)
 clear-four (a ∷ b ∷ []) h = absurd (let z : ⊥ = omega arith in z)

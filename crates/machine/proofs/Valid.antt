@@ -2,22 +2,21 @@
 -- In order: tests of all words; validity by its parts, `Sound`; the check's test is validity; a store and a put voice keep it.
 -- Assumes nothing.
 use mathlib.Core.Path.{_≡_, refl, sym, ap, ap₂, subst, _∙_}
-use mathlib.Core.Bool.{Bool, true, false, not, cond, _&&_, _||_, false≢true}
+use mathlib.Core.Bool.{Bool, true, false, _&&_, false≢true}
 use mathlib.Core.List.{List}
-use mathlib.Core.Logic.{_≢_}
-use Prim.Native.Nat.{ℕ, zero, suc, _+_, _-_, _*_, _/_, _%_, _<_, _≤_, min}
+use Prim.Native.Nat.{ℕ, zero, suc, _+_, _-_, _*_, _/_, _%_, _<_, _≤_}
 use native.Mathlib.Nat.{not-suc-le-zero}
 use native.Mathlib.Decide.{ℕ-discrete}
 use native.Mathlib.Omega.{arith}
 use lib.Bits.{bitAnd, and-le-r, and-zero-l}
-use lib.Dec.{eqb, ltb, eqb→eq}
-use lib.ListN.{length, getD, set, take, drop, length-set, length-take, length-drop}
-use lib.Seq.{getD-take, getD-drop, getD-set-same, getD-set-other}
-use borrow.Author.Tests.{eq-eqb, eqb-true, lt-ltb, le-ltb}
-use Rattle.numbers.proofs.Tests.{cases, split, all-at}
+use lib.Dec.{eqb, eqb→eq}
+use lib.ListN.{length, getD, set, length-set}
+use lib.Seq.{getD-set-same, getD-set-other}
+use borrow.Author.Tests.{eq-eqb, eqb-true, lt-ltb}
+use Rattle.numbers.proofs.Tests.{cases, all-at}
 use Rattle.machine.specs.Words.{WORDS, ABOVE, PAGE, IRQV, SUMS, voiceBits, aboveBits, bitsOf, cut, cutTo, isVector, valid}
 use Rattle.machine.specs.Voices.{voiceAt, putVoice}
-use Rattle.machine.specs.Kept.{among, keptTo, keptBy, gathered, gatheredKept, sumsKept}
+use Rattle.machine.specs.Kept.{among, keptAt, gathered, gatheredKept, sumsKept, threeKept, aboveKept}
 use Rattle.machine.proofs.Kept.{and-again, or-kept}
 use Rattle.machine.proofs.Parts.{voice-word, put-length, put-in, put-out}
 
@@ -54,27 +53,31 @@ pub record Sound (m : List ℕ) : Type 0 where
   pub words : (i : ℕ) → i < WORDS → cut i (getD m i 0) ≡ getD m i 0
   pub vector : isVector (getD m IRQV 0) ≡ true
 
-kept : List ℕ → ℕ → Bool
-kept m i = eqb (cut i (getD m i 0)) (getD m i 0)
+-- the test of the first n words is that of each
+tests-each : (m : List ℕ) (n : ℕ) → cutTo m n ≡ true → (i : ℕ) → i < n → keptAt m i ≡ true
+unfolding cutTo cut
+tests-each m = each (keptAt m) (cutTo m) refl (λ j. refl)
 
-cut-each : (m : List ℕ) (n : ℕ) → cutTo m n ≡ true → (i : ℕ) → i < n → cut i (getD m i 0) ≡ getD m i 0
-unfolding cutTo kept
-cut-each m n h i k = eqb-true (cut i (getD m i 0)) (getD m i 0) (each (kept m) (cutTo m) refl (λ j. refl) n h i k)
-
-cut-all : (m : List ℕ) (n : ℕ) → ((i : ℕ) → i < n → cut i (getD m i 0) ≡ getD m i 0) → cutTo m n ≡ true
-unfolding cutTo kept
-cut-all m n f = from-each (kept m) (cutTo m) refl (λ j. refl) n (λ i k. eq-eqb (cut i (getD m i 0)) (getD m i 0) (f i k))
+tests-all : (m : List ℕ) (n : ℕ) → ((i : ℕ) → i < n → keptAt m i ≡ true) → cutTo m n ≡ true
+unfolding cutTo cut
+tests-all m = from-each (keptAt m) (cutTo m) refl (λ j. refl)
 
 pub sound : (m : List ℕ) → valid m ≡ true → Sound m
-unfolding valid
+unfolding valid cut
 sound m h =
     let a = both (eqb (length m) WORDS) (cutTo m WORDS && isVector (getD m IRQV 0)) h in
     let b = both (cutTo m WORDS) (isVector (getD m IRQV 0)) (a .1) in
-    record { size = eqb-true (length m) WORDS (a .0); words = cut-each m WORDS (b .0); vector = b .1 }
+    record {
+      size = eqb-true (length m) WORDS (a .0);
+      words = λ i k. eqb-true (cut i (getD m i 0)) (getD m i 0) (tests-each m WORDS (b .0) i k);
+      vector = b .1;
+    }
 
 pub is-valid : (m : List ℕ) → Sound m → valid m ≡ true
-unfolding valid
-is-valid m s = rw (eq-eqb (length m) WORDS (s .size), cut-all m WORDS (s .words), s .vector)
+unfolding valid cut
+is-valid m s =
+    let e : cutTo m WORDS ≡ true = tests-all m WORDS (λ i k. eq-eqb (cut i (getD m i 0)) (getD m i 0) (s .words i k)) in
+    rw (eq-eqb (length m) WORDS (s .size), e, s .vector)
 
 -- a word of a valid record is at most the bits that it keeps
 pub word-le : (m : List ℕ) → Sound m → (i : ℕ) → i < WORDS → getD m i 0 ≤ bitsOf i
@@ -85,7 +88,7 @@ word-le m s i h = subst (λ (x : ℕ). x ≤ bitsOf i) (s .words i h) (and-le-r 
 
 pub bits-voice : (v j : ℕ) → v < 32 → j < 20 → bitsOf (20 * v + j) ≡ getD voiceBits j 0
 unfolding bitsOf
-bits-voice v j h k = let e : (20 * v + j) % 20 ≡ j = omega arith in rw (lt-ltb (20 * v + j) 640 (omega arith), e)
+bits-voice v j h k = let e : (20 * v + j) % 20 ≡ j = omega arith in rw (lt-ltb (20 * v + j) ABOVE (omega arith), e)
 
 -- all twelve sums keep the same
 bits-sum : (v j : ℕ) → v < 3 → j < 4 → bitsOf (4 * v + (SUMS + j)) ≡ bitsOf SUMS
@@ -93,17 +96,6 @@ unfolding bitsOf aboveBits
 bits-sum v j h k =
     let e : SUMS + (4 * v + j) ≡ 4 * v + (SUMS + j) = omega arith in
     rw (← e) (eqb→eq (bitsOf (SUMS + (4 * v + j))) (bitsOf SUMS) (all-at (λ (n : ℕ). eqb (bitsOf (SUMS + n)) (bitsOf SUMS)) 12 tt (4 * v + j) (omega arith)))
-
-passes : List ℕ → List ℕ → ℕ → Bool
-passes w k i = among (getD w i 0) (getD k i 0)
-
-kept-each : (w k : List ℕ) (n : ℕ) → keptTo w k n ≡ true → (i : ℕ) → i < n → bitAnd (getD w i 0) (getD k i 0) ≡ getD w i 0
-unfolding keptTo passes
-kept-each w k n h i l = eqb-true (bitAnd (getD w i 0) (getD k i 0)) (getD w i 0) (each (passes w k) (keptTo w k) refl (λ j. refl) n h i l)
-
-kept-all : (w k : List ℕ) (n : ℕ) → ((i : ℕ) → i < n → bitAnd (getD w i 0) (getD k i 0) ≡ getD w i 0) → keptTo w k n ≡ true
-unfolding keptTo passes
-kept-all w k n f = from-each (passes w k) (keptTo w k) refl (λ j. refl) n (λ i l. eq-eqb (bitAnd (getD w i 0) (getD k i 0)) (getD w i 0) (f i l))
 
 -- words that are d apart, from word i on: each has only bits of k, or all at once
 module _ (m : List ℕ) (d i k : ℕ) where
@@ -115,51 +107,32 @@ module _ (m : List ℕ) (d i k : ℕ) where
   unfolding gathered
   one-passes n = or-kept (gathered m d i n) (getD m (d * n + i) 0) k
 
-  gathered-each : (n : ℕ) → among (gathered m d i n) k ≡ true → (v : ℕ) → v < n → bitAnd (getD m (d * v + i) 0) k ≡ getD m (d * v + i) 0
-  gathered-each n h v l =
-      eqb-true (bitAnd (getD m (d * v + i) 0) k) (getD m (d * v + i) 0)
-      (each (λ (u : ℕ). among (getD m (d * u + i) 0) k) (λ (u : ℕ). among (gathered m d i u) k) none-passes one-passes n h v l)
+  gathered-each : (n : ℕ) → among (gathered m d i n) k ≡ true → (v : ℕ) → v < n → among (getD m (d * v + i) 0) k ≡ true
+  gathered-each = each (λ (v : ℕ). among (getD m (d * v + i) 0) k) (λ (n : ℕ). among (gathered m d i n) k) none-passes one-passes
 
-  gathered-all : (n : ℕ) → ((v : ℕ) → v < n → bitAnd (getD m (d * v + i) 0) k ≡ getD m (d * v + i) 0) → among (gathered m d i n) k ≡ true
-  gathered-all n f = from-each (λ (u : ℕ). among (getD m (d * u + i) 0) k) (λ (u : ℕ). among (gathered m d i u) k) none-passes one-passes n
-      (λ v l. eq-eqb (bitAnd (getD m (d * v + i) 0) k) (getD m (d * v + i) 0) (f v l))
+  gathered-all : (n : ℕ) → ((v : ℕ) → v < n → among (getD m (d * v + i) 0) k ≡ true) → among (gathered m d i n) k ≡ true
+  gathered-all = from-each (λ (v : ℕ). among (getD m (d * v + i) 0) k) (λ (n : ℕ). among (gathered m d i n) k) none-passes one-passes
 
 -- a table in the record: r rows that are d words apart; its column j begins at word `at j`, and its words keep the bits `k j`. The test
 -- `all` of its first columns, with all rows at once, is the test of each word
 module _ (m : List ℕ) (d r : ℕ) (at k : ℕ → ℕ) (all : ℕ → Bool) (none : all zero ≡ true)
     (one : (j : ℕ) → all (suc j) ≡ (all j && among (gathered m d (at j) r) (k j))) where
-  table-each : (n : ℕ) → all n ≡ true → (v j : ℕ) → v < r → j < n → bitAnd (getD m (d * v + at j) 0) (k j) ≡ getD m (d * v + at j) 0
+  table-each : (n : ℕ) → all n ≡ true → (v j : ℕ) → v < r → j < n → among (getD m (d * v + at j) 0) (k j) ≡ true
   table-each n h v j vk jk = gathered-each m d (at j) (k j) r (each (λ (u : ℕ). among (gathered m d (at u) r) (k u)) all none one n h j jk) v vk
 
-  table-all : (n : ℕ) → ((v j : ℕ) → v < r → j < n → bitAnd (getD m (d * v + at j) 0) (k j) ≡ getD m (d * v + at j) 0) → all n ≡ true
+  table-all : (n : ℕ) → ((v j : ℕ) → v < r → j < n → among (getD m (d * v + at j) 0) (k j) ≡ true) → all n ≡ true
   table-all n f = from-each (λ (u : ℕ). among (gathered m d (at u) r) (k u)) all none one n
       (λ j jk. gathered-all m d (at j) (k j) r (λ v vk. f v j vk jk))
 
--- the words between the voices and the sums, as the check is lent them, and the bits that they keep
-unfoldable pub above-part : List ℕ → List ℕ
-above-part m = take 11 (drop PAGE m)
-
-unfoldable pub above-bits : List ℕ
-above-bits = take 11 aboveBits
-
-above-word : (m : List ℕ) (j : ℕ) → j < 11 → getD (above-part m) j 0 ≡ getD m (PAGE + j) 0
-unfolding above-part
-above-word m j h = rw (getD-take, getD-drop)
-
-bits-above : (j : ℕ) → j < 11 → bitsOf (PAGE + j) ≡ getD above-bits j 0
-unfolding bitsOf above-bits
-bits-above j h = let e : PAGE + j - ABOVE ≡ j = omega arith in rw (le-ltb (PAGE + j) ABOVE (omega arith), e, getD-take 11 aboveBits j 0 h)
-
 -- word i, where it was found under the number n, with the bits k that it keeps
-found : (m : List ℕ) (i n k : ℕ) → n ≡ i → bitsOf n ≡ k → bitAnd (getD m n 0) k ≡ getD m n 0 → cut i (getD m i 0) ≡ getD m i 0
-unfolding cut
-found m i n k e b p = subst (λ (x : ℕ). bitAnd (getD m x 0) (bitsOf x) ≡ getD m x 0) e (rw b p)
+found : (m : List ℕ) (i n k : ℕ) → n ≡ i → bitsOf n ≡ k → among (getD m n 0) k ≡ true → keptAt m i ≡ true
+found m i n k e b p = subst (λ (x : ℕ). keptAt m x ≡ true) e (rw b p)
 
--- all voices at once, the sums four by four and the words between, or word by word: one test
+-- all voices at once, the sums and the words between four by four, or word by word: one test
 module _ (m : List ℕ) where
-  words-found : gatheredKept m 20 ≡ true → sumsKept m 4 ≡ true → keptBy (above-part m) above-bits ≡ true → (i : ℕ) → i < WORDS → cut i (getD m i 0) ≡ getD m i 0
-  unfolding gatheredKept sumsKept above-bits aboveBits
-  words-found hv hs ha i h = cases i PAGE (cut i (getD m i 0) ≡ getD m i 0)
+  words-found : gatheredKept m 20 ≡ true → sumsKept m 4 ≡ true → aboveKept m 4 ≡ true → (i : ℕ) → i < WORDS → keptAt m i ≡ true
+  unfolding gatheredKept sumsKept aboveKept
+  words-found hv hs ha i h = cases i PAGE (keptAt m i ≡ true)
       (λ l.
       let v = i / 20 in
       let j = i % 20 in
@@ -167,11 +140,16 @@ module _ (m : List ℕ) where
       let jk : j < 20 = omega arith in
       found m i (20 * v + j) (getD voiceBits j 0) (omega arith) (bits-voice v j vk jk)
       (table-each m 20 32 (λ j. j) (λ j. getD voiceBits j 0) (gatheredKept m) refl (λ j. refl) 20 hv v j vk jk))
-      (λ l. cases i SUMS (cut i (getD m i 0) ≡ getD m i 0)
+      (λ l. cases i SUMS (keptAt m i ≡ true)
       (λ q.
-      let j = i - PAGE in
-      let jk : j < 11 = omega arith in
-      found m i (PAGE + j) (getD above-bits j 0) (omega arith) (bits-above j jk) (rw (← (above-word m j jk)) (kept-each (above-part m) above-bits 11 ha j jk)))
+      let j = (i - PAGE) % 4 in
+      let p = both _ _ (each (threeKept m) (aboveKept m) refl (λ j. refl) 4 ha j (omega arith)) in
+      let r = both _ _ (p .0) in
+      cases i (PAGE + 4) (keptAt m i ≡ true)
+      (λ a. found m i (PAGE + j) _ (omega arith) refl (r .0))
+      (λ a. cases i (PAGE + 8) (keptAt m i ≡ true)
+      (λ b. found m i (PAGE + 4 + j) _ (omega arith) refl (r .1))
+      (λ b. found m i (PAGE + 8 + j) _ (omega arith) refl (p .1))))
       (λ q.
       let v = (i - SUMS) / 4 in
       let j = (i - SUMS) % 4 in
@@ -180,28 +158,29 @@ module _ (m : List ℕ) where
       found m i (4 * v + (SUMS + j)) (bitsOf SUMS) (omega arith) (bits-sum v j vk jk)
       (table-each m 4 3 (λ j. SUMS + j) (λ j. bitsOf SUMS) (sumsKept m) refl (λ j. refl) 4 hs v j vk jk)))
 
-  module _ (f : (i : ℕ) → i < WORDS → cut i (getD m i 0) ≡ getD m i 0) where
+  module _ (f : (i : ℕ) → i < WORDS → keptAt m i ≡ true) where
     voices-found : gatheredKept m 20 ≡ true
-    unfolding cut gatheredKept
+    unfolding gatheredKept
     voices-found = table-all m 20 32 (λ j. j) (λ j. getD voiceBits j 0) (gatheredKept m) refl (λ j. refl) 20
         (λ v j vk jk. rw (← (bits-voice v j vk jk)) (f (20 * v + j) (omega arith)))
 
     sums-found : sumsKept m 4 ≡ true
-    unfolding cut sumsKept
+    unfolding sumsKept
     sums-found = table-all m 4 3 (λ j. SUMS + j) (λ j. bitsOf SUMS) (sumsKept m) refl (λ j. refl) 4
         (λ v j vk jk. rw (← (bits-sum v j vk jk)) (f (4 * v + (SUMS + j)) (omega arith)))
 
-    above-found : keptBy (above-part m) above-bits ≡ true
-    unfolding cut above-bits aboveBits
-    above-found = kept-all (above-part m) above-bits 11 (λ j jk. rw (above-word m j jk, ← (bits-above j jk)) (f (PAGE + j) (omega arith)))
+    above-found : aboveKept m 4 ≡ true
+    unfolding aboveKept
+    above-found = from-each (threeKept m) (aboveKept m) refl (λ j. refl) 4
+        (λ l k. ap₂ _&&_ (ap₂ _&&_ (f (PAGE + l) (omega arith)) (f (PAGE + 4 + l) (omega arith))) (f (PAGE + 8 + l) (omega arith)))
 
-  pub words-test : (gatheredKept m 20 && sumsKept m 4 && keptBy (above-part m) above-bits) ≡ cutTo m WORDS
-  words-test = same-bool (gatheredKept m 20 && sumsKept m 4 && keptBy (above-part m) above-bits) (cutTo m WORDS)
+  pub words-test : (gatheredKept m 20 && sumsKept m 4 && aboveKept m 4) ≡ cutTo m WORDS
+  words-test = same-bool (gatheredKept m 20 && sumsKept m 4 && aboveKept m 4) (cutTo m WORDS)
       (λ h.
-      let p = both (gatheredKept m 20 && sumsKept m 4) (keptBy (above-part m) above-bits) h in
+      let p = both (gatheredKept m 20 && sumsKept m 4) (aboveKept m 4) h in
       let q = both (gatheredKept m 20) (sumsKept m 4) (p .0) in
-      cut-all m WORDS (words-found (q .0) (q .1) (p .1)))
-      (λ h. let f = cut-each m WORDS h in ap₂ _&&_ (ap₂ _&&_ (voices-found f) (sums-found f)) (above-found f))
+      tests-all m WORDS (words-found (q .0) (q .1) (p .1)))
+      (λ h. let f = tests-each m WORDS h in ap₂ _&&_ (ap₂ _&&_ (voices-found f) (sums-found f)) (above-found f))
 
 -- ---- what keeps a record valid
 

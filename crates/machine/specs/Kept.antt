@@ -1,5 +1,6 @@
--- Validity as the check goes about it: what its functions promise to one another. In order: words against the bits that they keep; words
--- that keep the same bits, several at once; the lanes that hold stray bits side by side. Assumes nothing.
+-- Validity as the check goes about it: what its functions promise to one another. In order: a word against the bits that it keeps; words
+-- that keep the same bits, several at once; the words between the voices and the sums, each by itself; the lanes that hold stray bits side
+-- by side. Assumes nothing.
 use mathlib.Core.Path.{_≡_}
 use Prim.Native.Nat.{ℕ, zero, suc, _+_, _*_}
 use mathlib.Core.Bool.{Bool, true, _&&_}
@@ -7,19 +8,15 @@ use mathlib.Core.List.{List, [], _∷_}
 use lib.Bits.{bitAnd, bitOr}
 use lib.Dec.{eqb}
 use lib.ListN.{length, getD}
-use Rattle.machine.specs.Words.{SUMS, voiceBits, bitsOf}
+use Rattle.machine.specs.Words.{PAGE, SUMS, voiceBits, bitsOf}
 
 -- x has only bits that are among those of k
 abbrev pub among : ℕ → ℕ → Bool
 among x k = eqb (bitAnd x k) x
 
--- each of the first n words of w has only bits that its entry in k keeps
-unfoldable pub keptTo : List ℕ → List ℕ → ℕ → Bool
-keptTo w k zero = true
-keptTo w k (suc i) = keptTo w k i && among (getD w i 0) (getD k i 0)
-
-abbrev pub keptBy : List ℕ → List ℕ → Bool
-keptBy w k = keptTo w k (length k)
+-- word i has only bits that it keeps
+abbrev pub keptAt : List ℕ → ℕ → Bool
+keptAt m i = among (getD m i 0) (bitsOf i)
 
 -- all bits that word i has, and the words d, 2 d and so on after it: n words in all
 unfoldable pub gathered : List ℕ → ℕ → ℕ → ℕ → ℕ
@@ -43,6 +40,15 @@ gatheredKept m (suc j) = gatheredKept m j && among (inVoices m j) (getD voiceBit
 unfoldable pub sumsKept : List ℕ → ℕ → Bool
 sumsKept m zero = true
 sumsKept m (suc l) = sumsKept m l && among (inSums m l) (bitsOf SUMS)
+
+-- word l from PAGE on has only bits that it keeps, and so have those 4 and 8 after it
+abbrev pub threeKept : List ℕ → ℕ → Bool
+threeKept m l = keptAt m (PAGE + l) && keptAt m (PAGE + 4 + l) && keptAt m (PAGE + 8 + l)
+
+-- none of the first n words from PAGE on, nor of those 4 and 8 after each, has a bit that it does not keep
+unfoldable pub aboveKept : List ℕ → ℕ → Bool
+aboveKept m zero = true
+aboveKept m (suc l) = aboveKept m l && threeKept m l
 
 -- no lane has a bit
 unfoldable pub clear : List ℕ → Bool

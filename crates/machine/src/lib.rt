@@ -2,10 +2,9 @@
 ghost use mathlib.Core.Path.{_≡_};
 ghost use mathlib.Core.Bool.{_&&_};
 ghost use Prim.Native.Nat.{_+_, _<_, _≤_};
-ghost use lib.Dec.{eqb};
 ghost use lib.ListN.{length};
-ghost use Rattle.machine.specs.Words.{bitsOf, voiceBits, WORDS as Words·WORDS};
-ghost use Rattle.machine.specs.Kept.{keptBy, inVoices, gatheredKept, sumsKept, Lanes};
+ghost use Rattle.machine.specs.Words.{bitsOf, voiceBits, aboveBits, WORDS as Words·WORDS};
+ghost use Rattle.machine.specs.Kept.{inVoices, gatheredKept, sumsKept, aboveKept, Lanes};
 ghost use Rattle.machine.specs.Calls.{checked, Resets, fresh};
 ghost use Rattle.machine.specs.Calls.{resetWord as Calls·resetWord};
 use answer::Answer;
@@ -109,7 +108,7 @@ pub fn bits_of(i: usize) -> u32
     }
 }
 
-// Whether a record may be used: its length, then its words. The stray bits of the voices and of the sums go into four lanes, which are
+// Whether a record may be used: its length, then its words, then the vector. The stray bits of all words go into four lanes, which are
 // judged when all are in, so that the compiler takes four words at a time.
 pub fn check(m: &[u32]) -> Answer
     ensures { λ r. ⌜ r ≡ checked (now (m .entry)) ⌝ }
@@ -122,12 +121,9 @@ pub fn check(m: &[u32]) -> Answer
     for g in 0..4 {
         look_at_four(m, 4 * g, &kept, &mut stray);
     }
-    look_at_last(m, &mut stray);
-    if stray[0] | stray[1] | stray[2] | stray[3] != 0 {
-        return Answer::RecordWord;
-    }
     let above = ABOVE_BITS;
-    if stray_bits(&m[PAGE..SUMS], &above[0..11]) != 0 {
+    look_at_last(m, &above, &mut stray);
+    if stray[0] | stray[1] | stray[2] | stray[3] != 0 {
         return Answer::RecordWord;
     }
     let vector = m[IRQV];
@@ -154,16 +150,26 @@ fn look_at_four(m: &[u32], j: usize, kept: &[u32; 20], stray: &mut [u32; 4])
     }
 }
 
-// The stray bits of the voices' last four words and of the sums go into the lanes. One mask serves all four, so that no table is read.
-fn look_at_last(m: &[u32], stray: &mut [u32; 4])
+// The stray bits of the voices' last four words, of the sums and of the words between go into the lanes. One mask serves the last four
+// words and one the sums; only the words between have masks of their own. They are eleven, so the last lane takes the first sum twice.
+fn look_at_last(m: &[u32], kept: &[u32; 23], stray: &mut [u32; 4])
     requires { ⌜ length (now m) ≡ Words·WORDS ⌝ }
+    requires { ⌜ now kept ≡ aboveBits ⌝ }
     requires { ⌜ Lanes (now stray) (gatheredKept (now m) 16) ⌝ }
-    ensures { λ _. ⌜ Lanes (now (stray .exit)) (gatheredKept (now (m .entry)) 20 && sumsKept (now (m .entry)) 4) ⌝ }
+    ensures { λ _. ⌜ Lanes (now (stray .exit)) (gatheredKept (now (m .entry)) 20 && sumsKept (now (m .entry)) 4 && aboveKept (now (m .entry)) 4) ⌝ }
 {
     for l in 0..4 {
         let all = gather_last(m, l);
         let sums = m[SUMS + l] | m[SUMS + 4 + l] | m[SUMS + 8 + l];
-        stray[l] = stray[l] | (all ^ (all & FILTER_BITS)) | (sums ^ (sums & SUM_BITS));
+        let low = m[PAGE + l];
+        let middle = m[PAGE + 4 + l];
+        let high = m[PAGE + 8 + l];
+        stray[l] = stray[l]
+            | (all ^ (all & FILTER_BITS))
+            | (sums ^ (sums & SUM_BITS))
+            | (low ^ (low & kept[l]))
+            | (middle ^ (middle & kept[4 + l]))
+            | (high ^ (high & kept[8 + l]));
     }
 }
 
@@ -191,19 +197,6 @@ fn gather_last(m: &[u32], l: usize) -> u32
         all = all | m[20 * v + 16 + l];
     }
     all
-}
-
-// The bits of the words that are not among those kept, all in one number.
-fn stray_bits(w: &[u32], kept: &[u32]) -> u32
-    requires { ⌜ length (now w) ≡ length (now kept) ⌝ }
-    ensures { λ r. ⌜ eqb r 0 ≡ keptBy (now (w .entry)) (now (kept .entry)) ⌝ }
-{
-    let mut stray: u32 = 0;
-    for i in 0..kept.len() {
-        let x = w[i];
-        stray = stray | (x ^ (x & kept[i]));
-    }
-    stray
 }
 
 // The record as it is after power-on. The old contents do not matter; only a record of another length is refused.

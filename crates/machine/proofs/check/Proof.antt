@@ -1,19 +1,18 @@
 -- `machine::check` meets its contract. The loop's invariant: no lane has a bit where the words passed have in no voice a bit that they do
 -- not keep. Assumes nothing.
-use mathlib.Core.Path.{_≡_, refl, sym, ap, ap₂, _∙_}
-use mathlib.Core.Bool.{Bool, true, false, cond, _&&_}
+use mathlib.Core.Path.{_≡_, refl, sym, _∙_}
+use mathlib.Core.Bool.{Bool, true, false, cond}
 use Prim.Native.Nat.{_+_, _*_, _-_, _≤_}
 use native.Mathlib.Omega.{arith}
-use lib.Dec.{eqb}
-use lib.ListN.{getD, length-take, length-drop}
+use lib.ListN.{getD}
 use borrow.Author.Needs.{needs}
 use borrow.Author.Tests.{eq-eqb, ne-eqb, lt-ltb, le-ltb}
 use Rattle.answer.specs.declared.Answer.the-variants.{Done, RecordWord}
-use Rattle.machine.specs.Words.{voiceBits, aboveBits, cutTo, isVector, IRQV, WORDS}
-use Rattle.machine.specs.Kept.{keptBy, gatheredKept, clear, Lanes}
+use Rattle.machine.specs.Words.{voiceBits, aboveBits, isVector, IRQV}
+use Rattle.machine.specs.Kept.{gatheredKept, clear, Lanes}
 use Rattle.machine.specs.Calls.{checked}
 use Rattle.machine.proofs.Kept.{four-lanes}
-use Rattle.machine.proofs.Valid.{above-part, above-bits, words-test}
+use Rattle.machine.proofs.Valid.{words-test}
 use Rattle.machine.proofs.Answers.{check-size, check-stray, check-vector}
 use Rattle.machine.proofs.check.Statement.{statement}
 use Rattle.machine.proofs.check.Tie as tie
@@ -41,51 +40,37 @@ loop-again c =
     (omega arith, rw e (c .look-at-four .ensures))
 
 look-at-last-requires : tie.Need-look-at-last-requires Inv-loop μ-loop
+unfolding aboveBits
 look-at-last-requires c κs =
-    let e : 4 * c .before .before .loop .g ≡ 16 = omega arith in
-    (omega arith, rw e at (c .before .before .loop .inv .1))
+    let e : 4 * c .before .before .before .loop .g ≡ 16 = omega arith in
+    (omega arith, (refl, rw e at (c .before .before .before .loop .inv .1)))
 
 returns-2 : tie.Need-returns-2 Inv-loop μ-loop
 returns-2 c =
-    let e = c .before .before .before .before .before in
+    let e = c .before .before .before .before .before .before in
     let m = e .before .before .args .m .now in
-    sym (check-stray m (e .if1 .left)
-    (sym (words-test m)
-    ∙ ap (λ (b : Bool). b && keptBy (above-part m) above-bits) (sym (four-lanes (c .before .look-at-last .ensures)) ∙ ne-eqb _ _ (c .if2 .taken))))
+    sym (check-stray m (e .if1 .left) (sym (four-lanes (c .before .look-at-last .ensures) ∙ words-test m) ∙ ne-eqb _ _ (c .if2 .taken)))
 
--- past the lanes' test, that of the words between the voices and the sums speaks of the whole record
-whole : (c : tie.After-stray-bits Inv-loop μ-loop)
-    → cutTo (c .before .before .before .before .before .before .before .before .before .before .before .args .m .now) WORDS ≡ eqb (c .stray-bits .result) 0
-unfolding above-part above-bits aboveBits
-whole c =
-    let e = c .before .before .before .before in
-    sym (words-test (e .before .before .before .before .before .before .before .args .m .now))
-    ∙ ap₂ _&&_ (sym (four-lanes (e .before .look-at-last .ensures)) ∙ eq-eqb _ _ (e .if2 .left)) (sym (c .stray-bits .ensures))
+-- past the lanes' test, the vector decides
+by-vector : (c : tie.Else2 Inv-loop μ-loop) (b : Bool)
+    → isVector (getD (c .before .before .before .before .before .before .before .before .args .m .now) IRQV 0) ≡ b
+    → cond b Done RecordWord ≡ checked (c .before .before .before .before .before .before .before .before .args .m .now)
+by-vector c b q =
+    let e = c .before .before .before .before .before .before in
+    let m = e .before .before .args .m .now in
+    sym (check-vector m (e .if1 .left) (sym (four-lanes (c .before .look-at-last .ensures) ∙ words-test m) ∙ eq-eqb _ _ (c .if2 .left)) b q)
 
 returns-3 : tie.Need-returns-3 Inv-loop μ-loop
-returns-3 c =
-    sym (check-stray _ (c .before .before .before .before .before .before .before .before .before .before .if1 .left)
-    (whole (c .before) ∙ ne-eqb _ _ (c .if3 .taken)))
-
--- past both, the vector decides
-by-vector : (c : tie.Else3 Inv-loop μ-loop) (b : Bool)
-    → isVector (getD (c .before .before .before .before .before .before .before .before .before .before .before .before .args .m .now) IRQV 0) ≡ b
-    → cond b Done RecordWord ≡ checked (c .before .before .before .before .before .before .before .before .before .before .before .before .args .m .now)
-by-vector c b q =
-    sym (check-vector _ (c .before .before .before .before .before .before .before .before .before .before .if1 .left)
-    (whole (c .before) ∙ eq-eqb _ _ (c .if3 .left)) b q)
+unfolding isVector
+returns-3 c = by-vector (c .before .before) true (rw (lt-ltb _ _ (c .if3 .taken)))
 
 returns-4 : tie.Need-returns-4 Inv-loop μ-loop
 unfolding isVector
-returns-4 c = by-vector (c .before .before) true (rw (lt-ltb _ _ (c .if4 .taken)))
+returns-4 c = by-vector (c .before .before .before) true (rw (le-ltb _ _ (c .before .if3 .left), eq-eqb _ _ (c .if4 .taken)))
 
 returns-5 : tie.Need-returns-5 Inv-loop μ-loop
 unfolding isVector
-returns-5 c = by-vector (c .before .before .before) true (rw (le-ltb _ _ (c .before .if4 .left), eq-eqb _ _ (c .if5 .taken)))
-
-returns-6 : tie.Need-returns-6 Inv-loop μ-loop
-unfolding isVector
-returns-6 c = by-vector (c .before .before .before) false (rw (le-ltb _ _ (c .before .if4 .left), ne-eqb _ _ (c .if5 .left)))
+returns-5 c = by-vector (c .before .before .before) false (rw (le-ltb _ _ (c .before .if3 .left), ne-eqb _ _ (c .if4 .left)))
 
 pub check-spec : {M : Type 1} → statement M
 check-spec =
@@ -107,14 +92,6 @@ check-spec =
     (λ c. search needs)
     returns-2
     (λ c. search needs)
-    (λ c. search needs)
-    (λ c. search needs)
-    (λ c. search needs)
-    (λ c. search needs)
-    (λ c. search needs)
-    (λ c κs. simp (length-take, length-drop) (omega arith))
     returns-3
-    (λ c. search needs)
     returns-4
-    returns-5
-    returns-6)
+    returns-5)

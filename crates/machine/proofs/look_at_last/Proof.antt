@@ -1,37 +1,39 @@
--- `machine::look_at_last` meets its contract. The loop's invariant: no lane has a bit where the words and the sums passed have only bits
--- that they keep. Assumes nothing.
+-- `machine::look_at_last` meets its contract. The loop's invariant: no lane has a bit where the words of the voices, the sums and the words
+-- between that were passed have only bits that they keep. Assumes nothing.
 use mathlib.Core.Path.{_≡_}
 use mathlib.Core.Bool.{_&&_, and-true}
 use Prim.Native.Nat.{_+_, _-_, _<_, _≤_}
 use native.Mathlib.Omega.{arith}
 use borrow.Author.Needs.{needs}
 use Rattle.machine.specs.Words.{bitsOf, aboveBits}
-use Rattle.machine.specs.Kept.{gatheredKept, sumsKept, Lanes}
-use Rattle.machine.proofs.Kept.{one-more-of-both, last-bits, three-sums}
+use Rattle.machine.specs.Kept.{gatheredKept, sumsKept, aboveKept, Lanes}
+use Rattle.machine.proofs.Kept.{one-more-of-all, last-bits, three-sums}
 use Rattle.machine.proofs.look_at_last.Statement.{statement}
 use Rattle.machine.proofs.look_at_last.Tie as tie
 
 abbrev Inv-loop : tie.InvT-loop
-Inv-loop m stray₀ l₀ stray l = (l ≤ 4) × Lanes stray (gatheredKept m (16 + l) && sumsKept m l)
+Inv-loop m kept stray₀ l₀ stray l = (l ≤ 4) × Lanes stray (gatheredKept m (16 + l) && sumsKept m l && aboveKept m l)
 
 abbrev μ-loop : tie.MeasureT-loop
-μ-loop m stray₀ l₀ stray l = 4 - l
+μ-loop m kept stray₀ l₀ stray l = 4 - l
 
 loop-holds : tie.Need-loop-holds Inv-loop μ-loop
-unfolding sumsKept
-loop-holds c = (omega arith, rw and-true (c .before .pre .1))
+unfolding sumsKept aboveKept
+loop-holds c = (omega arith, simp and-true (c .before .pre .1 .1))
 
 loop-again : tie.Need-loop-again Inv-loop μ-loop
 unfolding bitsOf aboveBits
 loop-again c =
-    let h = c .before .before .before .before .before .before .loop in
-    let m = c .before .before .before .before .before .before .before .before .args .m .now in
+    let g = c .before .before .before .before .before .before .before .before .before .before in
+    let h = g .before .before .loop in
+    let start = g .before .before .before .before in
+    let m = start .args .m .now in
     let e : 16 + (h .l + 1) ≡ 16 + h .l + 1 = omega arith in
     let k : h .l < 4 = omega arith in (
       omega arith,
       rw e
-          (one-more-of-both m (16 + h .l) (h .l) _ _ _ (h .inv .1) k (c .before .before .before .before .gather-last .ensures) (last-bits (h .l) k)
-          (three-sums m (h .l))),
+          (one-more-of-all m (start .args .kept .now) (16 + h .l) (h .l) _ _ _ (h .inv .1) k (g .gather-last .ensures) (last-bits (h .l) k)
+          (three-sums m (h .l)) (start .pre .1 .0)),
     )
 
 returns : tie.Need-returns Inv-loop μ-loop
@@ -45,6 +47,25 @@ look-at-last-spec =
     μ-loop
     loop-holds
     (λ c κs. search needs)
+    (λ c. search needs)
+    (λ c. search needs)
+    (λ c. search needs)
+    (λ c. search needs)
+    (λ c. search needs)
+    (λ c. search needs)
+    (λ c. search needs)
+    (λ c. search needs)
+    (λ c. search needs)
+    (λ c. search needs)
+    (λ c. search needs)
+    (λ c. search needs)
+    (λ c. search needs)
+    (λ c. search needs)
+    (λ c. search needs)
+    (λ c. search needs)
+    (λ c. search needs)
+    (λ c. search needs)
+    (λ c. search needs)
     (λ c. search needs)
     (λ c. search needs)
     (λ c. search needs)
