@@ -51,7 +51,7 @@ pub fn channel(w: u32) -> u32
     w / 1024 % 8
 }
 
-// The bank of sample memory that the voice reads: the two bits above all others.
+// The bank of sample memory that the voice reads: the two highest bits, so that no remainder is to be taken.
 pub fn bank(w: u32) -> u32
     requires { ⌜ w < 65536 ⌝ }
     ensures { λ r. ⌜ (r ≡ bankOf w) × (r < 4) ⌝ }

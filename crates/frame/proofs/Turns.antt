@@ -82,7 +82,7 @@ module _ (m : List ℕ) (channel : ℕ) (left right : ℤ) where
       ∙ summed-voice m (SUMS + 2 * channel) left u l h (omega arith))
       (λ _. refl)
 
-  pub added-length : length (added m channel left right) ≡ length m
+  added-length : length (added m channel left right) ≡ length m
   unfolding added
   added-length =
       let n = summed m (SUMS + 2 * channel) left in

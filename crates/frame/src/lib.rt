@@ -43,7 +43,7 @@ fn refusal(m: &[u32], memory: &[u16], out: &[i32]) -> Answer
     Answer::Done
 }
 
-// The turns of voices 0 to ACTV. What all turns share is made once here and lent to each: the last word of each bank that is lent, and the
+// The turns of voices 0 to ACTV. What all turns share is made once here and lent to each: of each bank the last word that is lent, and the
 // table of codes.
 fn play(m: &mut [u32], memory: &[u16])
     requires { ⌜ valid (now m) ≡ true ⌝ }
@@ -52,8 +52,8 @@ fn play(m: &mut [u32], memory: &[u16])
     let lasts = sample::lasts(memory.len());
     let table = codes::values();
     let slow = m[machine::SLOW];
-    let last = m[machine::ACTV];
-    let n = count(last);
+    let actv = m[machine::ACTV];
+    let n = count(actv);
     for v in 0..n {
         turn(m, v, slow, memory, &lasts, &table);
     }

@@ -122,7 +122,7 @@ pub fn check(m: &[u32]) -> Answer
         look_at_four(m, 4 * g, &kept, &mut stray);
     }
     let above = ABOVE_BITS;
-    look_at_last(m, &above, &mut stray);
+    look_at_rest(m, &above, &mut stray);
     if stray[0] | stray[1] | stray[2] | stray[3] != 0 {
         return Answer::RecordWord;
     }
@@ -152,7 +152,7 @@ fn look_at_four(m: &[u32], j: usize, kept: &[u32; 20], stray: &mut [u32; 4])
 
 // The stray bits of the voices' last four words, of the sums and of the words between go into the lanes. One mask serves the last four
 // words and one the sums; only the words between have masks of their own. They are eleven, so the last lane takes the first sum twice.
-fn look_at_last(m: &[u32], kept: &[u32; 23], stray: &mut [u32; 4])
+fn look_at_rest(m: &[u32], kept: &[u32; 23], stray: &mut [u32; 4])
     requires { ⌜ length (now m) ≡ Words·WORDS ⌝ }
     requires { ⌜ now kept ≡ aboveBits ⌝ }
     requires { ⌜ Lanes (now stray) (gatheredKept (now m) 16) ⌝ }

@@ -1,4 +1,4 @@
--- The last word of each bank that is lent, which a fetch asks first: below it, a word and the next one are both lent and in one bank.
+-- Of each bank the last word that is lent, which a fetch asks first: below it, a word and the next one are both lent and in one bank.
 -- Assumes nothing.
 use mathlib.Core.Path.{_≡_}
 use mathlib.Core.List.{List}

@@ -103,7 +103,8 @@ fn sample(table: &[i16; 256], cr: u32, w: u16) -> i32
     }
 }
 
-// The value between two samples, f of 512 parts on from the first. ACCUM has f times 4, so the compiler takes that as it stands there.
+// The value between two samples, f of 512 parts on from the first. f stands in ACCUM from bit 2 on, so where f is multiplied by 4 the compiler
+// masks ACCUM and shifts nothing.
 fn blend(f: u32, s1: i32, s2: i32) -> i32
     requires { ⌜ f < 512 ⌝ }
     requires { ⌜ Bits 16 s1 ⌝ }
@@ -113,7 +114,7 @@ fn blend(f: u32, s1: i32, s2: i32) -> i32
     4 * s1 + ((4 * f as i32 * (s2 - s1)) >> 9)
 }
 
-// The last word of each bank that is lent: made once for all fetches from a memory of n words.
+// Of each bank the last word that is lent, where n words of memory are: made once for all fetches.
 pub fn lasts(n: usize) -> [usize; 4]
     ensures { λ r. ⌜ Lasts n r ⌝ }
 {
@@ -124,6 +125,7 @@ pub fn lasts(n: usize) -> [usize; 4]
     l
 }
 
+// That of bank b. Where nothing of the bank is lent it is a word below the bank, so that no place in the bank is below it.
 fn last(n: usize, b: usize) -> usize
     requires { ⌜ b < 4 ⌝ }
     ensures { λ r. ⌜ r ≡ lastOf n b ⌝ }

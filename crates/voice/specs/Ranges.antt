@@ -1,5 +1,5 @@
--- The ranges of a voice's registers, which a turn asks of the registers before it and promises of those after. A register that no turn
--- changes and that every value suits is not named. Assumes nothing.
+-- The ranges of a voice's registers, which a turn asks; that a turn keeps them is proofs/Keeps. A register that no turn changes and that
+-- every value suits is not named. Assumes nothing.
 use Prim.Native.Nat.{_<_}
 use Rattle.voice.specs.Voice.{Voice, Levels}
 

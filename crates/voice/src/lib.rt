@@ -58,7 +58,7 @@ pub const O2N2: usize = 18;
 
 pub const O1N1: usize = 19;
 
-// What a turn adds to the left and right sums of a channel.
+// What a turn adds to the left and right sums of a channel; channel 7 is none.
 pub struct Addend {
     pub channel: u32,
     pub left: i32,
@@ -93,6 +93,7 @@ pub fn turn(
             right: right,
         };
     }
+    // A stopped voice: no sum is looked up for the zeros that it adds.
     Addend {
         channel: 7,
         left: 0,
@@ -146,7 +147,7 @@ fn outputs(w: &[u32]) -> Poles
     }
 }
 
-// ACCUM goes on. Where it stays within the loop points nothing else changes, whatever the loop mode.
+// ACCUM goes on: forward to END, in reverse to START. Where it does not pass that loop point nothing else changes, whatever the loop mode.
 fn step(w: &mut [u32], cr: u32)
     requires { ⌜ length (now w) ≡ 20 ⌝ }
     requires { ⌜ (cr ≡ getD (now w) 0 0) × (cr < 65536) ⌝ }

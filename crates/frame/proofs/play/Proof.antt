@@ -31,10 +31,10 @@ record Playing (first memory lasts : List ℕ) (table : List ℤ) (slow n : ℕ)
   turned : m ≡ turns memory v first
 
 abbrev Inv-loop : tie.InvT-loop
-Inv-loop m₀ memory lasts table slow last n v₀ m v = Playing m₀ memory lasts table slow n m v
+Inv-loop m₀ memory lasts table slow actv n v₀ m v = Playing m₀ memory lasts table slow n m v
 
 abbrev μ-loop : tie.MeasureT-loop
-μ-loop m₀ memory lasts table slow last n v₀ m v = n - v
+μ-loop m₀ memory lasts table slow actv n v₀ m v = n - v
 
 loop-holds : tie.Need-loop-holds Inv-loop μ-loop
 unfolding turns

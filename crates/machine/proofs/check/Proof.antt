@@ -39,9 +39,9 @@ loop-again c =
     let e : 4 * (c .before .before .before .before .loop .g + 1) ≡ 4 * c .before .before .before .before .loop .g + 4 = omega arith in
     (omega arith, rw e (c .look-at-four .ensures))
 
-look-at-last-requires : tie.Need-look-at-last-requires Inv-loop μ-loop
+look-at-rest-requires : tie.Need-look-at-rest-requires Inv-loop μ-loop
 unfolding aboveBits
-look-at-last-requires c κs =
+look-at-rest-requires c κs =
     let e : 4 * c .before .before .before .loop .g ≡ 16 = omega arith in
     (omega arith, (refl, rw e at (c .before .before .before .loop .inv .1)))
 
@@ -49,7 +49,7 @@ returns-2 : tie.Need-returns-2 Inv-loop μ-loop
 returns-2 c =
     let e = c .before .before .before .before .before .before in
     let m = e .before .before .args .m .now in
-    sym (check-stray m (e .if1 .left) (sym (four-lanes (c .before .look-at-last .ensures) ∙ words-test m) ∙ ne-eqb _ _ (c .if2 .taken)))
+    sym (check-stray m (e .if1 .left) (sym (four-lanes (c .before .look-at-rest .ensures) ∙ words-test m) ∙ ne-eqb _ _ (c .if2 .taken)))
 
 -- past the lanes' test, the vector decides
 by-vector : (c : tie.Else2 Inv-loop μ-loop) (b : Bool)
@@ -58,7 +58,7 @@ by-vector : (c : tie.Else2 Inv-loop μ-loop) (b : Bool)
 by-vector c b q =
     let e = c .before .before .before .before .before .before in
     let m = e .before .before .args .m .now in
-    sym (check-vector m (e .if1 .left) (sym (four-lanes (c .before .look-at-last .ensures) ∙ words-test m) ∙ eq-eqb _ _ (c .if2 .left)) b q)
+    sym (check-vector m (e .if1 .left) (sym (four-lanes (c .before .look-at-rest .ensures) ∙ words-test m) ∙ eq-eqb _ _ (c .if2 .left)) b q)
 
 returns-3 : tie.Need-returns-3 Inv-loop μ-loop
 unfolding isVector
@@ -85,7 +85,7 @@ check-spec =
     (λ c. search needs)
     (λ c. search needs)
     loop-again
-    look-at-last-requires
+    look-at-rest-requires
     (λ c. search needs)
     (λ c. search needs)
     (λ c. search needs)

@@ -1,4 +1,4 @@
--- `machine::look_at_last` meets its contract. The loop's invariant: no lane has a bit where the words of the voices, the sums and the words
+-- `machine::look_at_rest` meets its contract. The loop's invariant: no lane has a bit where the words of the voices, the sums and the words
 -- between that were passed have only bits that they keep. Assumes nothing.
 use mathlib.Core.Path.{_≡_}
 use mathlib.Core.Bool.{_&&_, and-true}
@@ -8,8 +8,8 @@ use borrow.Author.Needs.{needs}
 use Rattle.machine.specs.Words.{bitsOf, aboveBits}
 use Rattle.machine.specs.Kept.{gatheredKept, sumsKept, aboveKept, Lanes}
 use Rattle.machine.proofs.Kept.{one-more-of-all, last-bits, three-sums}
-use Rattle.machine.proofs.look_at_last.Statement.{statement}
-use Rattle.machine.proofs.look_at_last.Tie as tie
+use Rattle.machine.proofs.look_at_rest.Statement.{statement}
+use Rattle.machine.proofs.look_at_rest.Tie as tie
 
 abbrev Inv-loop : tie.InvT-loop
 Inv-loop m kept stray₀ l₀ stray l = (l ≤ 4) × Lanes stray (gatheredKept m (16 + l) && sumsKept m l && aboveKept m l)
@@ -39,8 +39,8 @@ loop-again c =
 returns : tie.Need-returns Inv-loop μ-loop
 returns c = let e : c .before .loop .l ≡ 4 = omega arith in rw e at (c .before .loop .inv .1)
 
-pub look-at-last-spec : {M : Type 1} → statement M
-look-at-last-spec =
+pub look-at-rest-spec : {M : Type 1} → statement M
+look-at-rest-spec =
     tie.close
     (tie.spec
     Inv-loop
