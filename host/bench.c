@@ -17,7 +17,7 @@
 #define MOST_ECOUNT 511u
 
 static const struct engine *engine;
-static _Alignas(16) uint32_t record[OTTO_RECORD_WORDS]; /* as malloc does */
+static _Alignas(16) uint32_t record[OTTO_RECORD_WORDS]; /* in every build */
 static uint16_t memory[BANK_WORDS];
 static size_t memory_words = NOISE_WORDS; /* lent */
 static int32_t output[OTTO_OUTPUT_VALUES];

@@ -1,9 +1,10 @@
 /*
  * The engine in C as one would write it for speed, in the order of the rules:
  * words of 32 bits, shifts for divisions, a table for codes, vectors of
- * sixteen bytes where the same is done to many words. It makes the same checks
- * as the library and is compared with the reference model too, so that the
- * measure itself is known to be right.
+ * sixteen bytes where the same is done to many words, and each of the library's
+ * own shapes that saves something here too. It makes the same checks as the
+ * library and is compared with the reference model too, so that the measure
+ * itself is known to be right.
  *
  * It is built by more than one compiler: ENGINE is the table of calls that a
  * build gives, NAME what it is called.
@@ -17,6 +18,7 @@
 #include "swift.h"
 
 #define UNFOLD inline __attribute__((always_inline))
+#define LIKELY(test) __builtin_expect((test), 1)
 
 /* ==== the check =========================================================== */
 
@@ -134,7 +136,7 @@ static uint32_t word_of(uint32_t page, uint32_t number)
 }
 
 static uint32_t write(uint32_t *record, size_t words, uint32_t address,
-                     uint8_t value)
+                      uint8_t value)
 {
     uint32_t answer = check(record, words);
     uint32_t shift = 24 - 8 * (address & 3);
@@ -175,7 +177,7 @@ static void open_register(uint32_t *record, uint32_t word)
 }
 
 static uint32_t read(uint32_t *record, size_t words, uint32_t address,
-                    uint8_t *byte)
+                     uint8_t *byte)
 {
     uint32_t answer = check(record, words);
 
@@ -255,19 +257,40 @@ static uint32_t fetch(const uint16_t *memory, size_t memory_words, uint32_t at)
     return at < memory_words ? memory[at] : 0;
 }
 
+/* Of each bank the last word that is lent: below it, a word and the next one
+   are both lent and in one bank. */
+static void find_lasts(uint32_t *lasts, size_t memory_words)
+{
+    for (uint32_t bank = 0; bank < 4; bank++) {
+        uint32_t end = (bank + 1) * BANK_WORDS;
+        uint32_t lent = memory_words < end ? (uint32_t)memory_words : end;
+
+        lasts[bank] = lent != 0 ? lent - 1 : 0;
+    }
+}
+
 static int32_t sample_of(uint32_t cr, uint32_t accum, const uint16_t *memory,
-                         size_t memory_words)
+                         size_t memory_words, const uint32_t *lasts)
 {
     uint32_t bank = (cr >> 14) * BANK_WORDS;
     uint32_t index = accum >> 11;
-    uint32_t next = (index + 1) % BANK_WORDS;
-    uint32_t w1 = fetch(memory, memory_words, bank + index);
-    uint32_t w2 = fetch(memory, memory_words, bank + next);
+    uint32_t at = bank + index;
     int coded = (cr & CR_CMPD) != 0;
-    int32_t s1 = coded ? values[w1 >> 8] : (int16_t)w1;
-    int32_t s2 = coded ? values[w2 >> 8] : (int16_t)w2;
+    uint32_t w1;
+    uint32_t w2;
+    int32_t s1;
+    int32_t s2;
 
-    return 4 * s1 + (((int32_t)(accum >> 2 & 511) * (s2 - s1)) >> 7);
+    if (LIKELY(at < lasts[cr >> 14])) {
+        w1 = memory[at];
+        w2 = memory[at + 1];
+    } else {
+        w1 = fetch(memory, memory_words, at);
+        w2 = fetch(memory, memory_words, bank + (index + 1) % BANK_WORDS);
+    }
+    s1 = coded ? values[w1 >> 8] : (int16_t)w1;
+    s2 = coded ? values[w2 >> 8] : (int16_t)w2;
+    return 4 * s1 + (((int32_t)(accum & 2044) * (s2 - s1)) >> 9);
 }
 
 static int32_t low(int32_t k, int32_t x, int32_t yp)
@@ -325,16 +348,20 @@ static int32_t filter(uint32_t *voice, uint32_t cr, int32_t x)
 
 static void add(uint32_t *sum, int32_t o, uint32_t volume)
 {
-    int32_t scaled = (o * (int32_t)(256 + (volume >> 4 & 255))) >> 5;
+    int64_t gain = (int64_t)(4096 + (volume & 0xFF0u)) << (volume >> 12);
 
-    *sum = (*sum + (uint32_t)(scaled >> (15 - (volume >> 12)))) & 0x7FFFFFu;
+    *sum = (*sum + (uint32_t)(o * gain >> 24)) & 0x7FFFFFu;
 }
 
-/* A voice passed a loop point: the new place, and CR with what that changes. */
-static void loop(uint32_t *voice, uint32_t stop, uint32_t other, uint32_t back)
+/* ACCUM passes a loop point. A voice with LEI set goes on; any other stops, or
+   goes on from the other loop point or back from this one, as CR says. */
+static void loop(uint32_t *voice, uint32_t cr, uint32_t on, uint32_t stop,
+                 uint32_t other, uint32_t back)
 {
-    uint32_t cr = voice[VOICE_CR];
-
+    if ((cr & CR_LEI) != 0) {
+        voice[VOICE_ACCUM] = on;
+        return;
+    }
     voice[VOICE_ACCUM] = other;
     switch (cr & (CR_BLE | CR_LPE)) {
     case 0:
@@ -354,27 +381,30 @@ static void loop(uint32_t *voice, uint32_t stop, uint32_t other, uint32_t back)
 
 static void move(uint32_t *voice, uint32_t cr)
 {
-    uint32_t start = voice[VOICE_START];
-    uint32_t end = voice[VOICE_END];
-    int64_t t = voice[VOICE_ACCUM];
-    uint32_t d;
+    uint32_t accum = voice[VOICE_ACCUM];
+    uint32_t fc = voice[VOICE_FC];
 
     if ((cr & CR_DIR) == 0) {
-        t += voice[VOICE_FC];
-        if ((cr & CR_LEI) == 0 && t > (int64_t)end) {
-            d = (uint32_t)t - end;
-            loop(voice, end, start + d, end - d);
-            return;
+        if (LIKELY((uint64_t)accum + fc <= voice[VOICE_END])) {
+            voice[VOICE_ACCUM] = accum + fc;
+        } else {
+            uint32_t start = voice[VOICE_START];
+            uint32_t end = voice[VOICE_END];
+            uint32_t d = accum + fc - end;
+
+            loop(voice, cr, accum + fc, end, start + d, end - d);
         }
     } else {
-        t -= voice[VOICE_FC];
-        if ((cr & CR_LEI) == 0 && t < (int64_t)start) {
-            d = start - (uint32_t)t;
-            loop(voice, start, end - d, start + d);
-            return;
+        if (LIKELY((int64_t)accum - fc >= voice[VOICE_START])) {
+            voice[VOICE_ACCUM] = accum - fc;
+        } else {
+            uint32_t start = voice[VOICE_START];
+            uint32_t end = voice[VOICE_END];
+            uint32_t d = start + fc - accum;
+
+            loop(voice, cr, accum - fc, start, end - d, start + d);
         }
     }
-    voice[VOICE_ACCUM] = (uint32_t)t;
 }
 
 static void ramp(uint32_t *value, uint32_t by)
@@ -417,7 +447,8 @@ static void run(uint32_t *record, uint32_t *voice, uint32_t cr, uint32_t slow,
 }
 
 static UNFOLD void turn(uint32_t *record, uint32_t v, uint32_t slow,
-                        const uint16_t *memory, size_t memory_words)
+                        const uint16_t *memory, size_t memory_words,
+                        const uint32_t *lasts)
 {
     uint32_t *voice = record + v * VOICE_WORDS;
     uint32_t cr = voice[VOICE_CR];
@@ -426,7 +457,7 @@ static UNFOLD void turn(uint32_t *record, uint32_t v, uint32_t slow,
     int32_t o;
 
     if (runs) {
-        x = sample_of(cr, voice[VOICE_ACCUM], memory, memory_words);
+        x = sample_of(cr, voice[VOICE_ACCUM], memory, memory_words, lasts);
     }
     o = filter(voice, cr, x) >> 2;
     if (runs) {
@@ -455,6 +486,7 @@ static uint32_t frame(uint32_t *record, size_t words, const uint16_t *memory,
                       size_t output_values)
 {
     uint32_t answer = check(record, words);
+    uint32_t lasts[4];
     uint32_t active;
     uint32_t slow;
 
@@ -469,8 +501,9 @@ static uint32_t frame(uint32_t *record, size_t words, const uint16_t *memory,
     }
     active = record[WORD_ACTV] + 1;
     slow = record[WORD_SLOW];
+    find_lasts(lasts, memory_words);
     for (uint32_t v = 0; v < active; v++) {
-        turn(record, v, slow, memory, memory_words);
+        turn(record, v, slow, memory, memory_words, lasts);
     }
     close_frame(record, output);
     return ANSWER_DONE;
