@@ -193,16 +193,16 @@ pub sound-set : {m : List ℕ} (i x : ℕ) → Sound m → i < WORDS → cut i x
 sound-set {m} i x s h c q = record {
   size = length-set m i x ∙ s .size;
   words = λ k l. at k l (ℕ-discrete k i);
-  vector = found (ℕ-discrete IRQV i);
+  vector = still (ℕ-discrete IRQV i);
 }
   where
     at : (k : ℕ) → k < WORDS → Dec (k ≡ i) → cut k (getD (set m i x) k 0) ≡ getD (set m i x) k 0
     at k l (yes e) = rw (e, getD-set-same m i x 0 (omega (arith, s .size))) c
     at k l (no e) = rw (getD-set-other m i k x 0 e) (s .words k l)
 
-    found : Dec (IRQV ≡ i) → isVector (getD (set m i x) IRQV 0) ≡ true
-    found (yes e) = subst (λ (k : ℕ). isVector (getD (set m i x) k 0) ≡ true) (sym e) (rw (getD-set-same m i x 0 (omega (arith, s .size))) (q (sym e)))
-    found (no e) = rw (getD-set-other m i IRQV x 0 e) (s .vector)
+    still : Dec (IRQV ≡ i) → isVector (getD (set m i x) IRQV 0) ≡ true
+    still (yes e) = subst (λ (k : ℕ). isVector (getD (set m i x) k 0) ≡ true) (sym e) (rw (getD-set-same m i x 0 (omega (arith, s .size))) (q (sym e)))
+    still (no e) = rw (getD-set-other m i IRQV x 0 e) (s .vector)
 
 -- a put voice whose words are cut already
 pub sound-put : {m : List ℕ} (v : ℕ) (w : List ℕ) → Sound m → v < 32 → length w ≡ 20 → ((j : ℕ) → j < 20 → bitAnd (getD w j 0) (getD voiceBits j 0) ≡ getD w j 0)
