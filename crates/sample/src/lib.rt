@@ -125,7 +125,7 @@ pub fn lasts(n: usize) -> [usize; 4]
     l
 }
 
-// That of bank b. Where nothing of the bank is lent it is a word below the bank, so that no place in the bank is below it.
+// That of bank b. Where nothing of the bank is lent, no place in the bank is below it.
 fn last(n: usize, b: usize) -> usize
     requires { ⌜ b < 4 ⌝ }
     ensures { λ r. ⌜ r ≡ lastOf n b ⌝ }
