@@ -11,7 +11,9 @@ use Rattle.numbers.proofs.Tests.{alongside}
 use Rattle.control.specs.Control.{flagOf, withBit, STP0, LEI, LPE, BLE, IRQE, DIR, IRQ}
 use Rattle.control.proofs.Agree.{AgreeBut, flag-agrees, put-agrees}
 use Rattle.address.specs.declared.Place.{Place}
-use Rattle.address.specs.Address.{raised, event, forward, reverse, stepped}
+use Rattle.address.specs.Address.{raised, forward, reverse, stepped}
+use Rattle.address.specs.Event.{event}
+use Rattle.address.proofs.Laws.{forward-one, reverse-one}
 
 pub record SamePlace (a b : Place) : Type 0 where
   pub accum : a .accum ≡ b .accum
@@ -25,13 +27,13 @@ module _ (c d : ℕ) (h : AgreeBut IRQ c d) where
   unfolding raised
   raised-agrees = alongside (AgreeBut IRQ) (same IRQE (λ e. omega arith)) (put-agrees IRQ c d h IRQ 1 (omega arith)) h
 
-  event-agrees : (stop : ℕ) (other back : ℤ) (turned : ℕ) → turned ≤ 1 → SamePlace (event c stop other back turned) (event d stop other back turned)
+  event-agrees : (passed : ℕ) (across back : ℤ) (direction : ℕ) → direction ≤ 1 → SamePlace (event c passed across back direction) (event d passed across back direction)
   unfolding event
-  event-agrees stop other back turned l =
+  event-agrees passed across back direction l =
       let r = raised-agrees in
       alongside SamePlace (same BLE (λ e. omega arith))
       (alongside SamePlace (same LPE (λ e. omega arith))
-      (record { accum = refl; cr = put-agrees IRQ (raised c) (raised d) r DIR turned l })
+      (record { accum = refl; cr = put-agrees IRQ (raised c) (raised d) r DIR direction l })
       (record {
         accum = refl;
         cr = put-agrees IRQ (withBit BLE 0 (raised c)) (withBit BLE 0 (raised d)) (put-agrees IRQ (raised c) (raised d) r BLE 0 (omega arith)) LEI 1 (omega arith);
@@ -48,5 +50,5 @@ module _ (c d : ℕ) (h : AgreeBut IRQ c d) where
   unfolding stepped forward reverse
   stepped-agrees FC START END ACCUM =
       alongside SamePlace (same DIR (λ e. omega arith))
-      (alongside SamePlace (heeds (not (ltZ (pos ACCUM -ℤ pos FC) (pos START)))) (record { accum = refl; cr = h }) (event-agrees START _ _ 0 (omega arith)))
-      (alongside SamePlace (heeds (leZ (pos ACCUM +ℤ pos FC) (pos END))) (record { accum = refl; cr = h }) (event-agrees END _ _ 1 (omega arith)))
+      (alongside SamePlace (heeds (not (ltZ (pos ACCUM -ℤ pos FC) (pos START)))) (record { accum = refl; cr = h }) (rw (reverse-one c START END _, reverse-one d START END _) (event-agrees START _ _ 0 (omega arith))))
+      (alongside SamePlace (heeds (leZ (pos ACCUM +ℤ pos FC) (pos END))) (record { accum = refl; cr = h }) (rw (forward-one c START END _, forward-one d START END _) (event-agrees END _ _ 1 (omega arith))))

@@ -1,5 +1,5 @@
--- The address step by its tests: the four events, and the ways of a step forward and in reverse; then the step that stays within the loop
--- points, in natural numbers. Assumes nothing.
+-- The address step by its tests: the four events, and that the event of each direction is one of them; the ways of a step forward and in
+-- reverse; then the step that stays within the loop points, in natural numbers. Assumes nothing.
 use mathlib.Core.Path.{_≡_, refl, ap, _∙_}
 use mathlib.Core.Bool.{true, false}
 use Prim.Native.Nat.{ℕ, _+_, _-_, _<_, _≤_}
@@ -15,7 +15,8 @@ use Rattle.numbers.proofs.Difference.{is-pos, pos-⊖, ⊖-lt}
 use Rattle.numbers.proofs.Words.{pos-sub}
 use Rattle.control.specs.Control.{flagOf, withBit, STP0, LEI, LPE, BLE, IRQE, DIR, IRQ}
 use Rattle.address.specs.declared.Place.{Place}
-use Rattle.address.specs.Address.{raised, event, forward, reverse, stepped}
+use Rattle.address.specs.Address.{raised, forwardEvent, reverseEvent, forward, reverse, stepped}
+use Rattle.address.specs.Event.{event}
 
 module _ (CR : ℕ) where
   pub raised-on : flagOf IRQE CR ≡ true → raised CR ≡ withBit IRQ 1 CR
@@ -26,22 +27,36 @@ module _ (CR : ℕ) where
   unfolding raised
   raised-off t = rw t
 
-module _ (CR stop : ℕ) (other back : ℤ) (turned : ℕ) where
-  pub turns : flagOf BLE CR ≡ true → flagOf LPE CR ≡ true → event CR stop other back turned ≡ record { accum = word 32 back; cr = withBit DIR turned (raised CR) }
+module _ (CR passed : ℕ) (across back : ℤ) (direction : ℕ) where
+  pub turns : flagOf BLE CR ≡ true → flagOf LPE CR ≡ true → event CR passed across back direction ≡ record { accum = word 32 back; cr = withBit DIR direction (raised CR) }
   unfolding event
   turns b l = rw (b, l)
 
-  pub goes-on-once : flagOf BLE CR ≡ true → flagOf LPE CR ≡ false → event CR stop other back turned ≡ record { accum = word 32 other; cr = withBit LEI 1 (withBit BLE 0 (raised CR)) }
+  pub goes-on-once : flagOf BLE CR ≡ true → flagOf LPE CR ≡ false → event CR passed across back direction ≡ record { accum = word 32 across; cr = withBit LEI 1 (withBit BLE 0 (raised CR)) }
   unfolding event
   goes-on-once b l = rw (b, l)
 
-  pub goes-on : flagOf BLE CR ≡ false → flagOf LPE CR ≡ true → event CR stop other back turned ≡ record { accum = word 32 other; cr = raised CR }
+  pub goes-on : flagOf BLE CR ≡ false → flagOf LPE CR ≡ true → event CR passed across back direction ≡ record { accum = word 32 across; cr = raised CR }
   unfolding event
   goes-on b l = rw (b, l)
 
-  pub stops : flagOf BLE CR ≡ false → flagOf LPE CR ≡ false → event CR stop other back turned ≡ record { accum = stop; cr = withBit STP0 1 (raised CR) }
+  pub stops : flagOf BLE CR ≡ false → flagOf LPE CR ≡ false → event CR passed across back direction ≡ record { accum = passed; cr = withBit STP0 1 (raised CR) }
   unfolding event
   stops b l = rw (b, l)
+
+-- the event of each direction, as one
+module _ (CR START END : ℕ) (d : ℤ) where
+  pub forward-one : forwardEvent (flagOf BLE CR) (flagOf LPE CR) (raised CR) START END d ≡ event CR END (pos START +ℤ d) (pos END -ℤ d) 1
+  unfolding forwardEvent event
+  forward-one = split _ (flagOf BLE CR)
+      (λ b. split _ (flagOf LPE CR) (λ l. rw (b, l)) (λ l. rw (b, l)))
+      (λ b. split _ (flagOf LPE CR) (λ l. rw (b, l)) (λ l. rw (b, l)))
+
+  pub reverse-one : reverseEvent (flagOf BLE CR) (flagOf LPE CR) (raised CR) START END d ≡ event CR START (pos END -ℤ d) (pos START +ℤ d) 0
+  unfolding reverseEvent event
+  reverse-one = split _ (flagOf BLE CR)
+      (λ b. split _ (flagOf LPE CR) (λ l. rw (b, l)) (λ l. rw (b, l)))
+      (λ b. split _ (flagOf LPE CR) (λ l. rw (b, l)) (λ l. rw (b, l)))
 
 module _ (CR FC START END ACCUM : ℕ) where
   -- forward: LEI is 1; the target is not past END; it is past
@@ -57,7 +72,7 @@ module _ (CR FC START END ACCUM : ℕ) where
       → forward CR FC START END ACCUM
       ≡ event CR END (pos START +ℤ (pos ACCUM +ℤ pos FC -ℤ pos END)) (pos END -ℤ (pos ACCUM +ℤ pos FC -ℤ pos END)) 1
   unfolding forward
-  forward-event e t = rw (e, t)
+  forward-event e t = rw (e, t) (forward-one CR START END _)
 
   -- reverse: LEI is 1; the target is not past START; it is past
   pub reverse-free : flagOf LEI CR ≡ true → reverse CR FC START END ACCUM ≡ record { accum = word 32 (pos ACCUM -ℤ pos FC); cr = CR }
@@ -72,7 +87,7 @@ module _ (CR FC START END ACCUM : ℕ) where
       → reverse CR FC START END ACCUM
       ≡ event CR START (pos END -ℤ (pos START -ℤ (pos ACCUM -ℤ pos FC))) (pos START +ℤ (pos START -ℤ (pos ACCUM -ℤ pos FC))) 0
   unfolding reverse
-  reverse-event e t = rw (e, t)
+  reverse-event e t = rw (e, t) (reverse-one CR START END _)
 
   pub steps-back : flagOf DIR CR ≡ true → stepped CR FC START END ACCUM ≡ reverse CR FC START END ACCUM
   unfolding stepped

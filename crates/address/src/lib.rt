@@ -4,7 +4,8 @@ ghost use mathlib.Core.Path.{_≡_};
 ghost use Prim.Native.Nat.{_<_, _≤_};
 ghost use Rattle.numbers.specs.Numbers.{Within, word};
 ghost use Rattle.address.specs.Address.{raised, stepped};
-ghost use Rattle.address.specs.Address.{forward as Address·forward, reverse as Address·reverse, event as Address·event};
+ghost use Rattle.address.specs.Address.{forward as Address·forward, reverse as Address·reverse};
+ghost use Rattle.address.specs.Event.{event as Event·event};
 
 // What the step changes.
 pub struct Place {
@@ -66,36 +67,36 @@ fn reverse(cr: u32, fc: u32, start: u32, end: u32, accum: u32) -> Place
     }
 }
 
-// A loop event, by the loop mode BLE, LPE.
-fn event(cr: u32, stop: u32, other: i64, back: i64, turned: u32) -> Place
+// A loop event, by the loop mode BLE, LPE. Both directions share it: they differ in where the three ways lead, and in the direction after.
+fn event(cr: u32, passed: u32, across: i64, back: i64, direction: u32) -> Place
     requires { ⌜ cr < 65536 ⌝ }
-    requires { ⌜ Within 17179869184 other ⌝ }
+    requires { ⌜ Within 17179869184 across ⌝ }
     requires { ⌜ Within 17179869184 back ⌝ }
-    requires { ⌜ turned ≤ 1 ⌝ }
-    ensures { λ r. ⌜ (r ≡ Address·event cr stop other back turned) × (r .cr < 65536) ⌝ }
+    requires { ⌜ direction ≤ 1 ⌝ }
+    ensures { λ r. ⌜ (r ≡ Event·event cr passed across back direction) × (r .cr < 65536) ⌝ }
 {
     let up = raise(cr);
     if control::flag(control::BLE, cr) {
         if control::flag(control::LPE, cr) {
             return Place {
                 accum: wrap(back),
-                cr: control::with_bit(control::DIR, turned, up),
+                cr: control::with_bit(control::DIR, direction, up),
             };
         }
         let once = control::with_bit(control::BLE, 0, up);
         return Place {
-            accum: wrap(other),
+            accum: wrap(across),
             cr: control::with_bit(control::LEI, 1, once),
         };
     }
     if control::flag(control::LPE, cr) {
         return Place {
-            accum: wrap(other),
+            accum: wrap(across),
             cr: up,
         };
     }
     Place {
-        accum: stop,
+        accum: passed,
         cr: control::with_bit(control::STP0, 1, up),
     }
 }

@@ -1,31 +1,30 @@
--- What a call answers: the number of each answer, and the first refusal of several. Assumes nothing.
+-- What a call answers: the number of each answer, whether it is done, and the first refusal among a call's tests. Assumes nothing.
 use Prim.Native.Nat.{ℕ}
 use mathlib.Core.Bool.{Bool, true, false, cond}
+use mathlib.Core.List.{List, [], _∷_}
 use Rattle.answer.specs.declared.Answer.{Answer}
-use Rattle.answer.specs.declared.Answer.the-variants.{Done, RecordSize, RecordWord, Address, Pot, Memory, Output}
+use Rattle.answer.specs.declared.Answer.the-variants.{Done, RecordLength, RecordInvalid, Address, Pot, MemoryLength, OutputLength}
 
-abbrev pub numberOf : Answer → ℕ
-numberOf Done = 0
-numberOf RecordSize = 1
-numberOf RecordWord = 2
-numberOf Address = 3
-numberOf Pot = 4
-numberOf Memory = 5
-numberOf Output = 6
+abbrev pub answerNumber : Answer → ℕ
+answerNumber Done = 0
+answerNumber RecordLength = 1
+answerNumber RecordInvalid = 2
+answerNumber Address = 3
+answerNumber Pot = 4
+answerNumber MemoryLength = 5
+answerNumber OutputLength = 6
 
 abbrev pub isDone : Answer → Bool
 isDone Done = true
-isDone RecordSize = false
-isDone RecordWord = false
+isDone RecordLength = false
+isDone RecordInvalid = false
 isDone Address = false
 isDone Pot = false
-isDone Memory = false
-isDone Output = false
+isDone MemoryLength = false
+isDone OutputLength = false
 
--- a refusal where its test holds
-abbrev pub refuse : Bool → Answer → Answer
-refuse t a = cond t a Done
-
--- the first of two that is a refusal
-abbrev pub first : Answer → Answer → Answer
-first a b = cond (isDone a) b a
+-- The tests that a call makes, in its order, each with the answer where it holds: the first that holds decides, and where none does the
+-- call is done.
+abbrev pub firstRefusal : List (Bool × Answer) → Answer
+firstRefusal [] = Done
+firstRefusal (t ∷ ts) = cond (t .0) (t .1) (firstRefusal ts)

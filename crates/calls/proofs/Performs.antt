@@ -4,8 +4,8 @@ use mathlib.Core.List.{List}
 use Prim.Native.Nat.{ℕ}
 use lib.IntN.{ℤ}
 use Rattle.answer.specs.declared.Answer.{Answer}
-use Rattle.machine.specs.Calls.{Resets}
-use Rattle.registers.specs.Calls.{Writes, Reads, SetsPot}
+use Rattle.machine.specs.Reset.{Resets}
+use Rattle.registers.specs.Access.{Writes, Reads, SetsPot}
 use Rattle.frame.specs.Frame.{Frames}
 use Rattle.calls.specs.Calls.{answerTo, after, byteFrom, outputFrom}
 use Rattle.calls.specs.Asks.{Performs}

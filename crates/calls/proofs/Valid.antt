@@ -7,7 +7,7 @@ use lib.IntN.{ℤ}
 use Rattle.numbers.proofs.Tests.{either}
 use Rattle.answer.specs.Answer.{isDone}
 use Rattle.machine.specs.Words.{valid}
-use Rattle.machine.specs.Calls.{sized, fresh, resetRecord}
+use Rattle.machine.specs.Reset.{resetAnswer, fresh, resetRecord}
 use Rattle.machine.proofs.Fresh.{fresh-valid}
 use Rattle.machine.proofs.Valid.{sound, is-valid}
 use Rattle.registers.proofs.Corollaries.{write-valid, read-valid, pot-valid}
@@ -33,7 +33,7 @@ Byte (Frame memory out) = Unit {0}
 
 pub after-valid : (m : List ℕ) (c : Call) → Byte c → valid m ≡ true → valid (after m c) ≡ true
 unfolding after resetRecord
-after-valid m Reset h v = either (λ (n : List ℕ). valid n ≡ true) (isDone (sized m)) fresh m (λ _. fresh-valid) (λ _. v)
+after-valid m Reset h v = either (λ (n : List ℕ). valid n ≡ true) (isDone (resetAnswer m)) fresh m (λ _. fresh-valid) (λ _. v)
 after-valid m (Write a b) h v = write-valid m a b h v
 after-valid m (Read a) h v = read-valid m a v
 after-valid m (SetPot p) h v = pot-valid m p v

@@ -5,8 +5,8 @@ use Prim.Native.Nat.{ℕ}
 use mathlib.Core.List.{List, [], _∷_, _++_}
 use lib.IntN.{ℤ}
 use Rattle.answer.specs.declared.Answer.{Answer}
-use Rattle.machine.specs.Calls.{sized, resetRecord}
-use Rattle.registers.specs.Calls.{byteAnswer, writeRecord, readRecord, readByte, potAnswer, potRecord}
+use Rattle.machine.specs.Reset.{resetAnswer, resetRecord}
+use Rattle.registers.specs.Access.{byteAnswer, writeRecord, readRecord, readByte, potAnswer, potRecord}
 use Rattle.frame.specs.Frame.{frameAnswer, frameRecord, frameOutput}
 
 -- a call: a write has an address and a byte, a read an address; a frame is lent sample memory and an output
@@ -18,7 +18,7 @@ pub data Call : Type 0 where
   Frame : List ℕ → List ℤ → Call
 
 unfoldable pub answerTo : List ℕ → Call → Answer
-answerTo m Reset = sized m
+answerTo m Reset = resetAnswer m
 answerTo m (Write a b) = byteAnswer m a
 answerTo m (Read a) = byteAnswer m a
 answerTo m (SetPot p) = potAnswer m p

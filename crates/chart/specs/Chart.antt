@@ -53,12 +53,12 @@ chartOf input = cond (ltb 65536 (length input)) tooLong (lines input)
 
 -- The output must have nine bytes for each byte of input, which hold any chart: the longest line of a pair has 18, and that of
 -- an odd byte 9. Otherwise the call says so, and leaves the output as it was.
-unfoldable pub answerOf : List ℕ → List ℕ → Charted
-answerOf input out = cond (ltb (length out) (9 * length input)) NoRoom (Written (length (chartOf input)))
+unfoldable pub chartAnswer : List ℕ → List ℕ → Charted
+chartAnswer input out = cond (ltb (length out) (9 * length input)) NoRoom (Written (length (chartOf input)))
 
 -- the output afterwards: the chart, and past it what stood there
-unfoldable pub outputOf : List ℕ → List ℕ → List ℕ
-outputOf input out = cond (ltb (length out) (9 * length input)) out (chartOf input ++ drop (length (chartOf input)) out)
+unfoldable pub chartOutput : List ℕ → List ℕ → List ℕ
+chartOutput input out = cond (ltb (length out) (9 * length input)) out (chartOf input ++ drop (length (chartOf input)) out)
 
 -- out′ is out with the text stored from `at` on, and r the place after it
 pub record Stored (out : List ℕ) (at : ℕ) (text : List ℕ) (out′ : List ℕ) (r : ℕ) : Type 0 where

@@ -5,7 +5,7 @@ ghost use mathlib.Core.List.{_++_};
 ghost use Prim.Native.Nat.{_+_, _*_, _<_, _≤_};
 ghost use lib.ListN.{length};
 ghost use Rattle.numbers.specs.Numbers.{signed, Within};
-ghost use Rattle.chart.specs.Chart.{decimal, number, line, lines, answerOf, outputOf, Stored};
+ghost use Rattle.chart.specs.Chart.{decimal, number, line, lines, chartAnswer, chartOutput, Stored};
 
 // What a chart into a lent output came to.
 pub enum Charted {
@@ -17,8 +17,8 @@ pub enum Charted {
 
 // The chart of the input, at the start of the output.
 pub fn chart(input: &[u8], out: &mut [u8]) -> Charted
-    ensures { λ r. ⌜ r ≡ answerOf (now (input .entry)) (now (out .entry)) ⌝ }
-    ensures { λ r. ⌜ now (out .exit) ≡ outputOf (now (input .entry)) (now (out .entry)) ⌝ }
+    ensures { λ r. ⌜ r ≡ chartAnswer (now (input .entry)) (now (out .entry)) ⌝ }
+    ensures { λ r. ⌜ now (out .exit) ≡ chartOutput (now (input .entry)) (now (out .entry)) ⌝ }
 {
     if out.len() / 9 < input.len() {
         return Charted::NoRoom;

@@ -14,17 +14,17 @@ use Rattle.filter.specs.Filter.{lowPass, highPass, coefficient, pole3, pole4, f
 use Rattle.volume.specs.Volume.{mantissa, exponent, volumeOf, panned}
 use Rattle.channel.specs.Channel.{mixed, putOut}
 use Rattle.ramp.specs.Ramp.{increment, ramped, slowRamped}
-use Rattle.address.specs.Address.{raised, event, forward, stepped}
-use Rattle.sample.specs.Sample.{firstAt, secondAt, sampleOf, fetched, fraction, between}
-use Rattle.voice.specs.Turn.{outputs, levels, withOutputs, moved, stoppedTurn, sampled, runningTurn, turnOf}
-use Rattle.answer.specs.Answer.{refuse, first}
+use Rattle.address.specs.Address.{raised, forwardEvent, forward, stepped}
+use Rattle.sample.specs.Sample.{firstAt, secondAt, sampleOf, fetched, fraction, interpolated}
+use Rattle.voice.specs.Turn.{lastOutputs, rampedLevels, withOutputs, moved, stoppedTurn, sampled, runningTurn, turnOf}
 use Rattle.answer.specs.declared.Answer.{Answer}
 use Rattle.answer.specs.declared.Answer.the-variants.{Done}
-use Rattle.machine.specs.Words.{wordOf, voiceBits, aboveBits, bitsOf, cut, cutTo, isVector, valid}
+use Rattle.machine.specs.Words.{ACCUM, voiceWord, voiceBits, commonBits, bitsOf, cut, cutTo, isVector, valid}
 use Rattle.machine.specs.Voices.{voiceAt, putVoice}
-use Rattle.machine.specs.Calls.{sized, checked, resetWord, wordsFrom, fresh}
+use Rattle.machine.specs.Check.{checked}
+use Rattle.machine.specs.Reset.{resetAnswer, resetWord, wordsFrom, fresh}
 use Rattle.voice.specs.Voice.{wordsOf}
-use Rattle.frame.specs.Frame.{summed, added, signalled, turned, turnAt, turns, heard, silenced, closed, played, frameAnswer, frameRecord, frameOutput}
+use Rattle.frame.specs.Frame.{addedTo, added, signalled, turnAt, turns, heard, silenced, closed, played, frameAnswer, frameRecord, frameOutput}
 
 -- A voice at the top of its left volume, and at volume 0 on the right, its poles filled with p. It loops from END to START 2048, and
 -- LVOL falls from one frame to the next.
@@ -53,7 +53,7 @@ playing v (w ∷ ws) = putVoice (playing (suc v) ws) v w
 
 -- what a frame answers, leaves and puts out; all that it computes by is named here, once
 unfoldable pub framed : List ℕ → Answer × (List ℕ × List ℤ)
-unfolding floorDiv floorMod signed word held bitOf flagOf withBit runs lowPass highPass coefficient pole3 pole4 filtered mantissa exponent volumeOf panned mixed putOut increment ramped slowRamped raised event forward stepped firstAt secondAt sampleOf fetched fraction between outputs levels withOutputs moved stoppedTurn sampled runningTurn turnOf voiceBits aboveBits bitsOf cut cutTo isVector valid voiceAt putVoice sized checked resetWord wordsFrom fresh wordsOf summed added signalled turned turnAt turns heard silenced closed played frameAnswer frameRecord frameOutput
+unfolding floorDiv floorMod signed word held bitOf flagOf withBit runs lowPass highPass coefficient pole3 pole4 filtered mantissa exponent volumeOf panned mixed putOut increment ramped slowRamped raised forwardEvent forward stepped firstAt secondAt sampleOf fetched fraction interpolated lastOutputs rampedLevels withOutputs moved stoppedTurn sampled runningTurn turnOf commonBits bitsOf cut cutTo isVector valid voiceAt putVoice resetAnswer checked resetWord wordsFrom fresh wordsOf addedTo added signalled turnAt turns heard silenced closed played frameAnswer frameRecord frameOutput
 framed m = (frameAnswer m memory silence, (frameRecord m memory silence, frameOutput m memory silence))
 
 abbrev left : List (List ℕ) → ℤ
@@ -88,7 +88,7 @@ unfolding framed
 one-heard = refl
 
 -- past END, back to START
-pub one-stepped : getD (frameRecord one memory silence) (wordOf 0 13) 0 ≡ 2049
+pub one-stepped : getD (frameRecord one memory silence) (voiceWord 0 ACCUM) 0 ≡ 2049
 unfolding framed
 one-stepped = refl
 

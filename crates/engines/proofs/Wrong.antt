@@ -9,7 +9,7 @@ use lib.ListN.{getD, replicate}
 use native.Mathlib.Omega.{arith}
 use Rattle.answer.specs.Answer.{isDone}
 use Rattle.answer.specs.declared.Answer.the-variants.{Done}
-use Rattle.machine.specs.Words.{wordOf}
+use Rattle.machine.specs.Words.{ACCUM, voiceWord}
 use Rattle.frame.specs.Frame.{frameRecord, frameOutput}
 use Rattle.calls.specs.Calls.{Frame, answerTo, after, outputFrom}
 use Rattle.calls.specs.Asks.{Performs}
@@ -52,7 +52,7 @@ module _ (e : Engine) (keeps : Keeps e) where
   unfolding after framed
   not-frozen h =
       let p = sym (keeps one memory silence Ask.Frame .leaves) ∙ h one memory silence Ask.Frame in
-      let q : _≡_ {A = ℕ} 2049 10240 = sym one-stepped ∙ ap (λ m. getD m (wordOf 0 13) 0) p in
+      let q : _≡_ {A = ℕ} 2049 10240 = sym one-stepped ∙ ap (λ m. getD m (voiceWord 0 ACCUM) 0) p in
       omega arith
 
   pub not-repeats : Repeats e → ⊥

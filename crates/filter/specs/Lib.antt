@@ -1,2 +1,2 @@
 pub mod Filter
-pub mod Outputs
+pub mod PoleBits

@@ -3,7 +3,7 @@ ghost use mathlib.Core.Path.{_≡_};
 ghost use Prim.Native.Nat.{_<_};
 ghost use Rattle.numbers.specs.Numbers.{Bits};
 ghost use Rattle.filter.specs.Filter.{lowPass, highPass, coefficient, pole3, pole4, filtered};
-ghost use Rattle.filter.specs.Outputs.{Outputs};
+ghost use Rattle.filter.specs.PoleBits.{PoleBits};
 
 // The last outputs of poles 1 to 4.
 pub struct Poles {
@@ -18,8 +18,8 @@ pub fn filter(cr: u32, k1: u32, k2: u32, x: i32, p: Poles) -> Poles
     requires { ⌜ k1 < 65536 ⌝ }
     requires { ⌜ k2 < 65536 ⌝ }
     requires { ⌜ Bits 18 x ⌝ }
-    requires { ⌜ Outputs p ⌝ }
-    ensures { λ r. ⌜ (r ≡ filtered cr k1 k2 x p) × Outputs r ⌝ }
+    requires { ⌜ PoleBits p ⌝ }
+    ensures { λ r. ⌜ (r ≡ filtered cr k1 k2 x p) × PoleBits r ⌝ }
 {
     let a = k1 / 16;
     let b = k2 / 16;

@@ -17,14 +17,14 @@ use Rattle.numbers.proofs.Tests.{either, all, all-at}
 use Rattle.control.specs.Control.{flagOf, channelOf, IRQ}
 use Rattle.channel.specs.Channel.{mixed}
 use Rattle.channel.proofs.Laws.{mixed-is}
-use Rattle.machine.specs.Words.{voiceBits, aboveBits, bitsOf, cut, isVector, ACTV, IRQV, SLOW, SUMS}
+use Rattle.machine.specs.Words.{voiceBits, commonBits, bitsOf, cut, isVector, ACTV, IRQV, SLOW, SUMS}
 use Rattle.machine.specs.Voices.{voiceAt}
 use Rattle.machine.proofs.Valid.{Sound, sound-set, sound-put, sound-voice, word-le}
 use Rattle.voice.specs.Turn.{turnOf}
 use Rattle.voice.specs.Ranges.{Ranges}
 use Rattle.voice.specs.Voice.{Voice, voiceOf, wordsOf}
 use Rattle.voice.proofs.Keeps.{Places, Follows, turn-follows}
-use Rattle.frame.specs.Frame.{summed, added, signalled, turned, turnAt, turns, played}
+use Rattle.frame.specs.Frame.{addedTo, added, signalled, turnAt, turns, played}
 
 -- ---- the voices of a valid record
 
@@ -36,7 +36,6 @@ at-most : (w : List ℕ) (j b : ℕ) → CutVoice w → j < 20 → getD voiceBit
 at-most w j b f h e = subst (λ (x : ℕ). x ≤ b) (f j h) (subst (λ (k : ℕ). bitAnd (getD w j 0) (getD voiceBits j 0) ≤ k) e (and-le-r (getD w j 0) (getD voiceBits j 0)))
 
 pub ranges-of : (w : List ℕ) → CutVoice w → Ranges (voiceOf w)
-unfolding voiceBits
 ranges-of w f = record {
   cr = omega (arith, at-most w 0 65535 f (lit< tt) refl);
   lvol = omega (arith, at-most w 2 65535 f (lit< tt) refl);
@@ -53,7 +52,6 @@ ranges-of w f = record {
 }
 
 pub places-of : (w : List ℕ) → CutVoice w → Places (voiceOf w)
-unfolding voiceBits
 places-of w f = record {
   start = omega (arith, at-most w 11 4294965248 f (lit< tt) refl);
   end = omega (arith, at-most w 12 4294967168 f (lit< tt) refl);
@@ -85,7 +83,7 @@ unfolding wordsOf
 words-length v = refl
 
 follows-cut : (w : List ℕ) (v : Voice) → CutVoice w → Follows (voiceOf w) v → CutVoice (wordsOf v)
-unfolding wordsOf voiceBits
+unfolding wordsOf
 follows-cut w v f h j l =
     let r = h .ranges in
     each-at (wordsOf v) voiceBits (
@@ -163,7 +161,7 @@ sum-bits : ℕ → Bool
 sum-bits c = eqb (bitsOf (SUMS + c)) 8388607
 
 all-sum-bits : T (all sum-bits 12)
-unfolding sum-bits bitsOf aboveBits
+unfolding sum-bits bitsOf commonBits
 all-sum-bits = tt
 
 bits-sum : (c : ℕ) → c < 12 → bitsOf (SUMS + c) ≡ 8388607
@@ -177,8 +175,8 @@ sum-small m s c h = omega (arith, subst (λ (b : ℕ). getD m (SUMS + c) 0 ≤ b
 mixed-small : (a b : ℕ) → mixed a b < 8388608
 mixed-small a b = rw (mixed-is a b) (mod-lt (a + b) (lit< tt))
 
-pub sound-summed : {m : List ℕ} (c : ℕ) (z : ℤ) → Sound m → c < 12 → Sound (summed m (SUMS + c) z)
-unfolding summed cut
+pub sound-summed : {m : List ℕ} (c : ℕ) (z : ℤ) → Sound m → c < 12 → Sound (addedTo m (SUMS + c) z)
+unfolding addedTo cut
 sound-summed {m} c z s h =
     sound-set (SUMS + c) _ s (omega arith) (rw (bits-sum c h) (small-cut 23 _ (mixed-small (getD m (SUMS + c) 0) (word 23 z)))) (λ e. absurd (let y : ⊥ = omega arith in y))
 
@@ -192,7 +190,7 @@ sound-added {m} c left right s = either Sound (ltb c 6) _ _
     (λ t. s)
 
 pub sound-signalled : {m : List ℕ} (v CR : ℕ) → Sound m → v < 32 → Sound (signalled m v CR)
-unfolding signalled cut bitsOf aboveBits
+unfolding signalled cut bitsOf commonBits
 sound-signalled {m} v CR s h = either Sound (flagOf IRQ CR && eqb (getD m IRQV 0) 128) _ _
     (λ t. sound-set IRQV v s (lit< tt) (small-cut 8 v (omega arith)) (λ e. is-vector v h))
     (λ t. s)
@@ -200,7 +198,7 @@ sound-signalled {m} v CR s h = either Sound (flagOf IRQ CR && eqb (getD m IRQV 0
 -- ---- the turn, and the turns
 
 pub sound-turn : (memory : List ℕ) (v : ℕ) {m : List ℕ} → Sound m → v < 32 → Sound (turnAt memory v m)
-unfolding turnAt turned
+unfolding turnAt
 sound-turn memory v {m} s h =
     let t = turnOf memory (getD m SLOW 0) (voiceOf (voiceAt m v)) in
     sound-signalled v (t .voice .cr)
@@ -216,7 +214,7 @@ sound-turns memory (suc n) {m} s h = sound-turn memory n (sound-turns memory n s
 -- ---- a whole frame's turns
 
 pub active-le : (m : List ℕ) → Sound m → getD m ACTV 0 ≤ 31
-unfolding bitsOf aboveBits
+unfolding bitsOf commonBits
 active-le m s = word-le m s ACTV (lit< tt)
 
 pub sound-played : (memory : List ℕ) {m : List ℕ} → Sound m → Sound (played memory m)

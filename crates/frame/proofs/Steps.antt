@@ -16,12 +16,12 @@ use Rattle.numbers.proofs.Tests.{split}
 use Rattle.control.specs.Control.{flagOf, IRQ}
 use Rattle.channel.specs.Channel.{mixed}
 use Rattle.machine.specs.Words.{IRQV, SUMS}
-use Rattle.frame.specs.Frame.{summed, added, signalled}
+use Rattle.frame.specs.Frame.{addedTo, added, signalled}
 
 -- ---- a channel
 
 module _ (m : List ℕ) (c : ℕ) (left right : ℤ) where
-  pub added-in : c < 6 → added m c left right ≡ summed (summed m (SUMS + 2 * c) left) (SUMS + 2 * c + 1) right
+  pub added-in : c < 6 → added m c left right ≡ addedTo (addedTo m (SUMS + 2 * c) left) (SUMS + 2 * c + 1) right
   unfolding added
   added-in h = rw (lt-ltb c 6 h)
 
@@ -29,13 +29,13 @@ module _ (m : List ℕ) (c : ℕ) (left right : ℤ) where
   unfolding added
   added-none h = rw (le-ltb c 6 h)
 
-pub summed-length : (m : List ℕ) (i : ℕ) (z : ℤ) → length (summed m i z) ≡ length m
-unfolding summed
-summed-length m i z = length-set m i (mixed (getD m i 0) (word 23 z))
+pub added-to-length : (m : List ℕ) (i : ℕ) (z : ℤ) → length (addedTo m i z) ≡ length m
+unfolding addedTo
+added-to-length m i z = length-set m i (mixed (getD m i 0) (word 23 z))
 
-pub summed-other : (m : List ℕ) (i j : ℕ) (z : ℤ) → j ≢ i → getD (summed m i z) j 0 ≡ getD m j 0
-unfolding summed
-summed-other m i j z h = getD-set-other m i j (mixed (getD m i 0) (word 23 z)) 0 h
+pub added-to-other : (m : List ℕ) (i j : ℕ) (z : ℤ) → j ≢ i → getD (addedTo m i z) j 0 ≡ getD m j 0
+unfolding addedTo
+added-to-other m i j z h = getD-set-other m i j (mixed (getD m i 0) (word 23 z)) 0 h
 
 -- ---- the interrupt step
 

@@ -14,7 +14,7 @@ use Rattle.numbers.specs.Numbers.{floorMod, word}
 use Rattle.numbers.proofs.Tests.{either, split}
 use Rattle.control.specs.Control.{channelOf, runs}
 use Rattle.channel.proofs.Laws.{mixed-is}
-use Rattle.machine.specs.Words.{SLOW, SUMS}
+use Rattle.machine.specs.Words.{CR, SLOW, SUMS, voiceWord}
 use Rattle.machine.specs.Voices.{voiceAt, putVoice}
 use Rattle.machine.proofs.Parts.{put-in}
 use Rattle.machine.proofs.Valid.{Sound, sound-put, sound-voice}
@@ -23,16 +23,16 @@ use Rattle.voice.specs.Turn.{stoppedTurn, turnOf}
 use Rattle.voice.specs.declared.Addend.{Addend}
 use Rattle.voice.specs.Takes.{TakesTurn}
 use Rattle.voice.proofs.Laws.{turn-stands}
-use Rattle.frame.specs.Frame.{summed, added, signalled, turned, turnAt}
+use Rattle.frame.specs.Frame.{addedTo, added, signalled, turnAt}
 use Rattle.frame.proofs.Steps.{added-none}
 use Rattle.frame.proofs.Keeps.{sum-small, words-length, turn-cut}
 use Rattle.frame.proofs.Turns.{added-word}
 
 -- ---- nothing added
 
-summed-nothing : (m : List ℕ) (i : ℕ) → Sound m → i < 12 → summed m (SUMS + i) (pos 0) ≡ m
-unfolding summed word floorMod
-summed-nothing m i s h =
+added-to-nothing : (m : List ℕ) (i : ℕ) → Sound m → i < 12 → addedTo m (SUMS + i) (pos 0) ≡ m
+unfolding addedTo word floorMod
+added-to-nothing m i s h =
     let e : (getD m (SUMS + i) 0 + 0) % 8388608 ≡ getD m (SUMS + i) 0 = omega (arith, sum-small m s i h) in
     ap (set m (SUMS + i)) (mixed-is (getD m (SUMS + i) 0) 0 ∙ e) ∙ set-getD m (SUMS + i) 0
 
@@ -42,7 +42,7 @@ added-nothing m c s = either (λ r. r ≡ m) (ltb c 6) _ _
     (λ t.
     let h = ltb-true c 6 t in
     let e : SUMS + 2 * c + 1 ≡ SUMS + (2 * c + 1) = omega arith in
-    rw (summed-nothing m (2 * c) s (omega arith), e) (summed-nothing m (2 * c + 1) s (omega arith)))
+    rw (added-to-nothing m (2 * c) s (omega arith), e) (added-to-nothing m (2 * c + 1) s (omega arith)))
     (λ t. refl)
 
 -- ---- the part put back
@@ -66,9 +66,9 @@ module _ (memory m : List ℕ) (v k : ℕ) (after : List ℕ) (a : Addend) (e : 
   abbrev part : ℕ → List ℕ
   part n = take n (drop (20 * v) m)
 
-  channel-is : a .channel ≡ cond (runs (getD (voiceAt m v) 0 0)) (channelOf (getD (voiceAt m v) 0 0)) 7
+  channel-is : a .channel ≡ cond (runs (getD (voiceAt m v) CR 0)) (channelOf (getD (voiceAt m v) CR 0)) 7
   unfolding voiceAt
-  channel-is = p .channel ∙ ap (λ (n : ℕ). cond (runs (getD (part n) 0 0)) (channelOf (getD (part n) 0 0)) 7) e
+  channel-is = p .channel ∙ ap (λ (n : ℕ). cond (runs (getD (part n) CR 0)) (channelOf (getD (part n) CR 0)) 7) e
 
   left-is : a .left ≡ result .left
   unfolding voiceAt
@@ -79,23 +79,21 @@ module _ (memory m : List ℕ) (v k : ℕ) (after : List ℕ) (a : Addend) (e : 
   right-is = p .right ∙ ap (λ (n : ℕ). turnOf memory (getD m SLOW 0) (voiceOf (part n)) .right) e
 
   -- a stopped voice says that it adds nowhere, and adds nothing
-  back-added : added back (a .channel) (a .left) (a .right) ≡ added back (channelOf (getD (voiceAt m v) 0 0)) (result .left) (result .right)
+  back-added : added back (a .channel) (a .left) (a .right) ≡ added back (channelOf (getD (voiceAt m v) CR 0)) (result .left) (result .right)
   unfolding stoppedTurn
-  back-added = rw (channel-is, left-is, right-is) (split _ (runs (getD (voiceAt m v) 0 0))
+  back-added = rw (channel-is, left-is, right-is) (split _ (runs (getD (voiceAt m v) CR 0))
       (λ t. rw t)
       (λ t.
       rw (t, turn-stands memory (getD m SLOW 0) (voiceOf (voiceAt m v)) t)
-      (added-none back 7 (pos 0) (pos 0) (lit≤ tt) ∙ sym (added-nothing back (channelOf (getD (voiceAt m v) 0 0)) back-sound))))
+      (added-none back 7 (pos 0) (pos 0) (lit≤ tt) ∙ sym (added-nothing back (channelOf (getD (voiceAt m v) CR 0)) back-sound))))
 
-  back-control : getD (added back (a .channel) (a .left) (a .right)) (20 * v) 0 ≡ result .voice .cr
+  back-control : getD (added back (a .channel) (a .left) (a .right)) (voiceWord v CR) 0 ≡ result .voice .cr
   unfolding wordsOf
   back-control =
       let fits : 20 * v + 20 ≤ length m = omega (arith, s .size) in
-      let n : 20 * v + 0 ≡ 20 * v = omega arith in
-      added-word back (a .channel) (a .left) (a .right) (20 * v) (omega arith) ∙ ap (λ (l : List ℕ). getD l (20 * v) 0) back-is
-      ∙ ap (λ (i : ℕ). getD (putVoice m v (wordsOf (result .voice))) i 0) (sym n)
-      ∙ put-in m v (wordsOf (result .voice)) (words-length (result .voice)) fits 0 (lit< tt)
+      added-word back (a .channel) (a .left) (a .right) (voiceWord v CR) (omega arith) ∙ ap (λ (l : List ℕ). getD l (voiceWord v CR) 0) back-is
+      ∙ put-in m v (wordsOf (result .voice)) (words-length (result .voice)) fits CR (lit< tt)
 
-  pub turn-taken : signalled (added back (a .channel) (a .left) (a .right)) v (getD (added back (a .channel) (a .left) (a .right)) (20 * v) 0) ≡ turnAt memory v m
-  unfolding turnAt turned
+  pub turn-taken : signalled (added back (a .channel) (a .left) (a .right)) v (getD (added back (a .channel) (a .left) (a .right)) (voiceWord v CR) 0) ≡ turnAt memory v m
+  unfolding turnAt
   turn-taken = rw (back-control, back-added, back-is)

@@ -20,14 +20,14 @@ use Rattle.numbers.proofs.Tests.{either, cases}
 use Rattle.control.specs.Control.{flagOf, channelOf, IRQ}
 use Rattle.channel.specs.Channel.{mixed, putOut}
 use Rattle.channel.proofs.Laws.{mixed-is}
-use Rattle.machine.specs.Words.{IRQV, ACTV, SLOW, SUMS, bitsOf, aboveBits, cut, WORDS}
+use Rattle.machine.specs.Words.{PAGE, IRQV, ACTV, SLOW, SUMS, bitsOf, commonBits, cut, RECORD_WORDS}
 use Rattle.machine.specs.Voices.{voiceAt, putVoice}
 use Rattle.machine.proofs.Parts.{voice-set-above, voice-same, put-length, put-same, put-other, put-out}
 use Rattle.machine.proofs.Valid.{Sound, sound-set, sound-put, sound-voice}
 use Rattle.voice.specs.Turn.{turnOf}
 use Rattle.voice.specs.Voice.{voiceOf, wordsOf}
-use Rattle.frame.specs.Frame.{summed, added, signalled, turned, turnAt, turns, heard, silenced, closed}
-use Rattle.frame.proofs.Steps.{summed-length, summed-other}
+use Rattle.frame.specs.Frame.{addedTo, added, signalled, turnAt, turns, heard, silenced, closed}
+use Rattle.frame.proofs.Steps.{added-to-length, added-to-other}
 use Rattle.frame.proofs.Keeps.{sum-small, words-length, turn-cut, sound-turns}
 
 -- ---- what a turn does with a voice's words, and what it adds to each sum
@@ -50,44 +50,44 @@ module _ (m : List ℕ) (v CR : ℕ) where
   signalled-word i h = either (λ r. getD r i 0 ≡ getD m i 0) (flagOf IRQ CR && eqb (getD m IRQV 0) 128) (set m IRQV v) m
       (λ _. getD-set-other m IRQV i v 0 h) (λ _. refl)
 
-  signalled-voice : (u : ℕ) → length m ≡ WORDS → u < 32 → voiceAt (signalled m v CR) u ≡ voiceAt m u
+  signalled-voice : (u : ℕ) → length m ≡ RECORD_WORDS → u < 32 → voiceAt (signalled m v CR) u ≡ voiceAt m u
   unfolding signalled
   signalled-voice u l h = either (λ r. voiceAt r u ≡ voiceAt m u) (flagOf IRQ CR && eqb (getD m IRQV 0) 128) (set m IRQV v) m
       (λ _. voice-set-above m u IRQV v l h (omega arith)) (λ _. refl)
 
-summed-voice : (m : List ℕ) (i : ℕ) (z : ℤ) (u : ℕ) → length m ≡ WORDS → u < 32 → 640 ≤ i → voiceAt (summed m i z) u ≡ voiceAt m u
-unfolding summed
-summed-voice m i z u l h k = voice-set-above m u i (mixed (getD m i 0) (word 23 z)) l h k
+added-to-voice : (m : List ℕ) (i : ℕ) (z : ℤ) (u : ℕ) → length m ≡ RECORD_WORDS → u < 32 → PAGE ≤ i → voiceAt (addedTo m i z) u ≡ voiceAt m u
+unfolding addedTo
+added-to-voice m i z u l h k = voice-set-above m u i (mixed (getD m i 0) (word 23 z)) l h k
 
-summed-same : (m : List ℕ) (i j : ℕ) (z : ℤ) → j ≡ i → i < length m → getD (summed m i z) j 0 ≡ (getD m j 0 + word 23 z) % 8388608
-unfolding summed
-summed-same m i j z e h = rw e (getD-set-same m i (mixed (getD m i 0) (word 23 z)) 0 h ∙ mixed-is (getD m i 0) (word 23 z))
+added-to-same : (m : List ℕ) (i j : ℕ) (z : ℤ) → j ≡ i → i < length m → getD (addedTo m i z) j 0 ≡ (getD m j 0 + word 23 z) % 8388608
+unfolding addedTo
+added-to-same m i j z e h = rw e (getD-set-same m i (mixed (getD m i 0) (word 23 z)) 0 h ∙ mixed-is (getD m i 0) (word 23 z))
 
 module _ (m : List ℕ) (channel : ℕ) (left right : ℤ) where
   pub added-word : (i : ℕ) → i < SUMS → getD (added m channel left right) i 0 ≡ getD m i 0
   unfolding added
   added-word i h =
-      let n = summed m (SUMS + 2 * channel) left in
-      either (λ r. getD r i 0 ≡ getD m i 0) (ltb channel 6) (summed n (SUMS + 2 * channel + 1) right) m
-      (λ _. summed-other n (SUMS + 2 * channel + 1) i right (λ e. omega arith) ∙ summed-other m (SUMS + 2 * channel) i left (λ e. omega arith))
+      let n = addedTo m (SUMS + 2 * channel) left in
+      either (λ r. getD r i 0 ≡ getD m i 0) (ltb channel 6) (addedTo n (SUMS + 2 * channel + 1) right) m
+      (λ _. added-to-other n (SUMS + 2 * channel + 1) i right (λ e. omega arith) ∙ added-to-other m (SUMS + 2 * channel) i left (λ e. omega arith))
       (λ _. refl)
 
-  added-voice : (u : ℕ) → length m ≡ WORDS → u < 32 → voiceAt (added m channel left right) u ≡ voiceAt m u
+  added-voice : (u : ℕ) → length m ≡ RECORD_WORDS → u < 32 → voiceAt (added m channel left right) u ≡ voiceAt m u
   unfolding added
   added-voice u l h =
-      let n = summed m (SUMS + 2 * channel) left in
-      either (λ r. voiceAt r u ≡ voiceAt m u) (ltb channel 6) (summed n (SUMS + 2 * channel + 1) right) m
+      let n = addedTo m (SUMS + 2 * channel) left in
+      either (λ r. voiceAt r u ≡ voiceAt m u) (ltb channel 6) (addedTo n (SUMS + 2 * channel + 1) right) m
       (λ _.
-      summed-voice n (SUMS + 2 * channel + 1) right u (summed-length m (SUMS + 2 * channel) left ∙ l) h (omega arith)
-      ∙ summed-voice m (SUMS + 2 * channel) left u l h (omega arith))
+      added-to-voice n (SUMS + 2 * channel + 1) right u (added-to-length m (SUMS + 2 * channel) left ∙ l) h (omega arith)
+      ∙ added-to-voice m (SUMS + 2 * channel) left u l h (omega arith))
       (λ _. refl)
 
   added-length : length (added m channel left right) ≡ length m
   unfolding added
   added-length =
-      let n = summed m (SUMS + 2 * channel) left in
-      either (λ r. length r ≡ length m) (ltb channel 6) (summed n (SUMS + 2 * channel + 1) right) m
-      (λ _. summed-length n (SUMS + 2 * channel + 1) right ∙ summed-length m (SUMS + 2 * channel) left)
+      let n = addedTo m (SUMS + 2 * channel) left in
+      either (λ r. length r ≡ length m) (ltb channel 6) (addedTo n (SUMS + 2 * channel + 1) right) m
+      (λ _. added-to-length n (SUMS + 2 * channel + 1) right ∙ added-to-length m (SUMS + 2 * channel) left)
       (λ _. refl)
 
   module _ (s : Sound m) (i : ℕ) (h : i < 12) where
@@ -95,27 +95,27 @@ module _ (m : List ℕ) (channel : ℕ) (left right : ℤ) where
     nothing-added : getD m (SUMS + i) 0 ≡ (getD m (SUMS + i) 0 + 0) % 8388608
     nothing-added = omega (arith, sum-small m s i h)
 
-    both-added : channel < 6 → getD (summed (summed m (SUMS + 2 * channel) left) (SUMS + 2 * channel + 1) right) (SUMS + i) 0
+    both-added : channel < 6 → getD (addedTo (addedTo m (SUMS + 2 * channel) left) (SUMS + 2 * channel + 1) right) (SUMS + i) 0
         ≡ (getD m (SUMS + i) 0 + portion channel left right i) % 8388608
     unfolding portion
     both-added k =
-        let n = summed m (SUMS + 2 * channel) left in
-        let l : length n ≡ WORDS = summed-length m (SUMS + 2 * channel) left ∙ s .size in
-        let P : ℕ → Type 0 = λ x. getD (summed n (SUMS + 2 * channel + 1) right) (SUMS + i) 0 ≡ (getD m (SUMS + i) 0 + x) % 8388608 in
+        let n = addedTo m (SUMS + 2 * channel) left in
+        let l : length n ≡ RECORD_WORDS = added-to-length m (SUMS + 2 * channel) left ∙ s .size in
+        let P : ℕ → Type 0 = λ x. getD (addedTo n (SUMS + 2 * channel + 1) right) (SUMS + i) 0 ≡ (getD m (SUMS + i) 0 + x) % 8388608 in
         either P (eqb i (2 * channel)) (word 23 left) (cond (eqb i (2 * channel + 1)) (word 23 right) 0)
         (λ t.
         let e = eqb-true i (2 * channel) t in
-        summed-other n (SUMS + 2 * channel + 1) (SUMS + i) right (λ q. omega arith) ∙ summed-same m (SUMS + 2 * channel) (SUMS + i) left (omega arith) (omega (arith, s .size)))
+        added-to-other n (SUMS + 2 * channel + 1) (SUMS + i) right (λ q. omega arith) ∙ added-to-same m (SUMS + 2 * channel) (SUMS + i) left (omega arith) (omega (arith, s .size)))
         (λ t.
         let e = eqb-false i (2 * channel) t in
-        let o = summed-other m (SUMS + 2 * channel) (SUMS + i) left (λ q. e (omega arith)) in
+        let o = added-to-other m (SUMS + 2 * channel) (SUMS + i) left (λ q. e (omega arith)) in
         either P (eqb i (2 * channel + 1)) (word 23 right) 0
         (λ u.
         let f = eqb-true i (2 * channel + 1) u in
-        summed-same n (SUMS + 2 * channel + 1) (SUMS + i) right (omega arith) (omega arith) ∙ ap (λ (x : ℕ). (x + word 23 right) % 8388608) o)
+        added-to-same n (SUMS + 2 * channel + 1) (SUMS + i) right (omega arith) (omega arith) ∙ ap (λ (x : ℕ). (x + word 23 right) % 8388608) o)
         (λ u.
         let f = eqb-false i (2 * channel + 1) u in
-        summed-other n (SUMS + 2 * channel + 1) (SUMS + i) right (λ q. f (omega arith)) ∙ o ∙ nothing-added))
+        added-to-other n (SUMS + 2 * channel + 1) (SUMS + i) right (λ q. f (omega arith)) ∙ o ∙ nothing-added))
 
     no-portion : 6 ≤ channel → portion channel left right i ≡ 0
     unfolding portion
@@ -141,11 +141,11 @@ module _ (memory : List ℕ) (v : ℕ) (m : List ℕ) (s : Sound m) (h : v < 32)
   fits : 20 * v + 20 ≤ length m
   fits = omega (arith, s .size)
 
-  put-size : length put ≡ WORDS
+  put-size : length put ≡ RECORD_WORDS
   unfolding put
   put-size = put-length m v (wordsAfter memory (getD m SLOW 0) (voiceAt m v)) long fits ∙ s .size
 
-  put-word : (i : ℕ) → 640 ≤ i → getD put i 0 ≡ getD m i 0
+  put-word : (i : ℕ) → PAGE ≤ i → getD put i 0 ≡ getD m i 0
   unfolding put
   put-word i k = put-out m v (wordsAfter memory (getD m SLOW 0) (voiceAt m v)) long fits i (λ a b. omega arith)
 
@@ -155,18 +155,18 @@ module _ (memory : List ℕ) (v : ℕ) (m : List ℕ) (s : Sound m) (h : v < 32)
 
   -- the words between the vector and the sums stay
   pub turn-word : (i : ℕ) → IRQV < i → i < SUMS → getD (turnAt memory v m) i 0 ≡ getD m i 0
-  unfolding turnAt turned put wordsAfter
+  unfolding turnAt put wordsAfter
   turn-word i k l = signalled-word _ v _ i (λ e. omega arith) ∙ added-word _ _ _ _ i l ∙ put-word i (omega arith)
 
   pub turn-sum : (i : ℕ) → i < 12 → getD (turnAt memory v m) (SUMS + i) 0 ≡ (getD m (SUMS + i) 0 + share memory (getD m SLOW 0) (voiceAt m v) i) % 8388608
-  unfolding turnAt turned put wordsAfter share
+  unfolding turnAt put wordsAfter share
   turn-sum i k =
       signalled-word _ v _ (SUMS + i) (λ e. omega arith) ∙ added-sum _ _ _ _ put-sound i k
       ∙ ap (λ (x : ℕ). (x + share memory (getD m SLOW 0) (voiceAt m v) i) % 8388608) (put-word (SUMS + i) (omega arith))
 
   -- a voice after it, from the same voice with the new words put
   turn-voice : (u : ℕ) → u < 32 → voiceAt (turnAt memory v m) u ≡ voiceAt put u
-  unfolding turnAt turned put wordsAfter
+  unfolding turnAt put wordsAfter
   turn-voice u k = signalled-voice _ v _ u (added-length _ _ _ _ ∙ put-size) k ∙ added-voice _ _ _ _ u put-size k
 
   pub turn-same : voiceAt (turnAt memory v m) v ≡ wordsAfter memory (getD m SLOW 0) (voiceAt m v)
@@ -191,7 +191,7 @@ module _ (m : List ℕ) (s : Sound m) where
   low-length : length (take SUMS m) ≡ SUMS
   low-length = length-take-le SUMS m (omega (arith, s .size))
 
-  silenced-length : length (silenced m) ≡ WORDS
+  silenced-length : length (silenced m) ≡ RECORD_WORDS
   unfolding silenced
   silenced-length = simp (length-append, low-length, length-drop) (omega (arith, s .size))
 
@@ -241,22 +241,22 @@ module _ (m : List ℕ) (s : Sound m) where
   }
 
   pub sound-closed : Sound (closed m)
-  unfolding closed next cut bitsOf aboveBits
+  unfolding closed next cut bitsOf commonBits
   sound-closed =
       sound-set SLOW next silenced-sound (omega arith)
       (and-mask next 3 ∙ mod-eq-of-lt (omega arith)) (λ e. absurd (let y : ⊥ = omega arith in y))
 
 -- ---- the output
 
-sums-length : (m : List ℕ) → length m ≡ WORDS → length (take 12 (drop SUMS m)) ≡ 12
+sums-length : (m : List ℕ) → length m ≡ RECORD_WORDS → length (take 12 (drop SUMS m)) ≡ 12
 sums-length m h = length-take-le 12 (drop SUMS m) (simp length-drop (omega arith))
 
-pub heard-length : (m : List ℕ) → length m ≡ WORDS → length (heard m) ≡ 12
+pub heard-length : (m : List ℕ) → length m ≡ RECORD_WORDS → length (heard m) ≡ 12
 unfolding heard
 heard-length m h = length-map (take 12 (drop SUMS m)) putOut ∙ sums-length m h
 
 -- the same sums are heard the same
-pub heard-same : (m n : List ℕ) → length m ≡ WORDS → length n ≡ WORDS → ((i : ℕ) → i < 12 → getD m (SUMS + i) 0 ≡ getD n (SUMS + i) 0) → heard m ≡ heard n
+pub heard-same : (m n : List ℕ) → length m ≡ RECORD_WORDS → length n ≡ RECORD_WORDS → ((i : ℕ) → i < 12 → getD m (SUMS + i) 0 ≡ getD n (SUMS + i) 0) → heard m ≡ heard n
 unfolding heard
 heard-same m n h k f = ap (map putOut)
     (ext-getD 0 (take 12 (drop SUMS m)) (take 12 (drop SUMS n)) (sums-length m h ∙ sym (sums-length n k))

@@ -8,9 +8,9 @@ ghost use lib.ListN.{length, getD, replicate};
 ghost use Rattle.numbers.specs.Numbers.{Within};
 ghost use Rattle.codes.specs.Codes.{Expands};
 ghost use Rattle.channel.specs.Channel.{putOut};
-ghost use Rattle.machine.specs.Words.{WORDS, SLOW, SUMS, valid};
+ghost use Rattle.machine.specs.Words.{RECORD_WORDS, VOICES, SLOW, SUMS, OUTPUT_VALUES, valid};
 ghost use Rattle.sample.specs.Lasts.{Lasts};
-ghost use Rattle.frame.specs.Frame.{summed, added, signalled, turnAt, played, heard, closed, frameAnswer, Frames};
+ghost use Rattle.frame.specs.Frame.{addedTo, added, signalled, turnAt, played, heard, closed, frameAnswer, Frames};
 use answer::Answer;
 
 // One frame: twelve values in channel order, left before right.
@@ -34,11 +34,11 @@ fn refusal(m: &[u32], memory: &[u16], out: &[i32]) -> Answer
     let Answer::Done = a else {
         return a;
     };
-    if 8388608 < memory.len() {
-        return Answer::Memory;
+    if sample::MOST_MEMORY_WORDS < memory.len() {
+        return Answer::MemoryLength;
     }
-    if out.len() != 12 {
-        return Answer::Output;
+    if out.len() != machine::OUTPUT_VALUES {
+        return Answer::OutputLength;
     }
     Answer::Done
 }
@@ -62,41 +62,41 @@ fn play(m: &mut [u32], memory: &[u16])
 // The turn of voice v.
 fn turn(m: &mut [u32], v: usize, slow: u32, memory: &[u16], lasts: &[usize; 4], table: &[i16; 256])
     requires { ⌜ valid (now m) ≡ true ⌝ }
-    requires { ⌜ v < 32 ⌝ }
+    requires { ⌜ v < VOICES ⌝ }
     requires { ⌜ slow ≡ getD (now m) SLOW 0 ⌝ }
     requires { ⌜ Lasts (length (now memory)) (now lasts) ⌝ }
     requires { ⌜ Expands (now table) ⌝ }
     ensures { λ _. ⌜ now (m .exit) ≡ turnAt (now (memory .entry)) v (now (m .entry)) ⌝ }
 {
-    let a = 20 * v;
-    let e = a + 20;
+    let a = machine::VOICE_WORDS * v;
+    let e = a + machine::VOICE_WORDS;
     let s = voice::turn(&mut m[a..e], slow, memory, lasts, table);
     add(m, s.channel, s.left, s.right);
-    let cr = m[a];
+    let cr = m[a + machine::CR];
     signal(m, v, cr);
 }
 
 // Left and right are added to the sums of a channel; channels 6 and 7 are none.
 fn add(m: &mut [u32], channel: u32, left: i32, right: i32)
-    requires { ⌜ length (now m) ≡ WORDS ⌝ }
-    requires { ⌜ ((i : ℕ) → i < 12 → getD (now m) (SUMS + i) 0 < 8388608) ⌝ }
+    requires { ⌜ length (now m) ≡ RECORD_WORDS ⌝ }
+    requires { ⌜ ((i : ℕ) → i < OUTPUT_VALUES → getD (now m) (SUMS + i) 0 < 8388608) ⌝ }
     requires { ⌜ Within 1048576 left ⌝ }
     requires { ⌜ Within 1048576 right ⌝ }
     ensures { λ _. ⌜ now (m .exit) ≡ added (now (m .entry)) channel left right ⌝ }
 {
     if channel < 6 {
         let at = place(channel);
-        sum(m, at, left);
-        sum(m, at + 1, right);
+        add_to(m, at, left);
+        add_to(m, at + 1, right);
     }
 }
 
 // One value is added to one sum.
-fn sum(m: &mut [u32], at: usize, z: i32)
+fn add_to(m: &mut [u32], at: usize, z: i32)
     requires { ⌜ at < length (now m) ⌝ }
     requires { ⌜ getD (now m) at 0 < 8388608 ⌝ }
     requires { ⌜ Within 1048576 z ⌝ }
-    ensures { λ _. ⌜ now (m .exit) ≡ summed (now (m .entry)) at z ⌝ }
+    ensures { λ _. ⌜ now (m .exit) ≡ addedTo (now (m .entry)) at z ⌝ }
 {
     let old = m[at];
     let new = channel::mix(old, numbers::word_of(23, z));
@@ -113,12 +113,12 @@ fn place(channel: u32) -> usize
 
 // A waiting voice enters an empty vector.
 fn signal(m: &mut [u32], v: usize, cr: u32)
-    requires { ⌜ length (now m) ≡ WORDS ⌝ }
-    requires { ⌜ v < 32 ⌝ }
+    requires { ⌜ length (now m) ≡ RECORD_WORDS ⌝ }
+    requires { ⌜ v < VOICES ⌝ }
     ensures { λ _. ⌜ now (m .exit) ≡ signalled (now (m .entry)) v cr ⌝ }
 {
     if control::flag(control::IRQ, cr) {
-        if m[machine::IRQV] == 128 {
+        if m[machine::IRQV] == machine::NO_VOICE {
             m[machine::IRQV] = v as u32;
         }
     }
@@ -126,9 +126,9 @@ fn signal(m: &mut [u32], v: usize, cr: u32)
 
 // The frame is closed: the sums go out and become 0, and the slow-ramp counter goes on.
 fn close(m: &mut [u32], out: &mut [i32])
-    requires { ⌜ length (now m) ≡ WORDS ⌝ }
-    requires { ⌜ ((i : ℕ) → i < 12 → getD (now m) (SUMS + i) 0 < 8388608) ⌝ }
-    requires { ⌜ length (now out) ≡ 12 ⌝ }
+    requires { ⌜ length (now m) ≡ RECORD_WORDS ⌝ }
+    requires { ⌜ ((i : ℕ) → i < OUTPUT_VALUES → getD (now m) (SUMS + i) 0 < 8388608) ⌝ }
+    requires { ⌜ length (now out) ≡ OUTPUT_VALUES ⌝ }
     ensures { λ _. ⌜ (now (m .exit) ≡ closed (now (m .entry))) × (now (out .exit) ≡ heard (now (m .entry))) ⌝ }
 {
     let sums = take_sums(&mut m[machine::SUMS..machine::SUMS_END]);
@@ -138,12 +138,12 @@ fn close(m: &mut [u32], out: &mut [i32])
 }
 
 // The sums, which become 0 where they stood. Taken by value they cannot be part of the output, so the compiler holds four at a time.
-fn take_sums(sums: &mut [u32]) -> [u32; 12]
-    requires { ⌜ length (now sums) ≡ 12 ⌝ }
-    ensures { λ r. ⌜ (r ≡ now (sums .entry)) × (now (sums .exit) ≡ replicate 12 0) ⌝ }
+fn take_sums(sums: &mut [u32]) -> [u32; machine::OUTPUT_VALUES]
+    requires { ⌜ length (now sums) ≡ OUTPUT_VALUES ⌝ }
+    ensures { λ r. ⌜ (r ≡ now (sums .entry)) × (now (sums .exit) ≡ replicate OUTPUT_VALUES 0) ⌝ }
 {
-    let mut taken: [u32; 12] = [0; 12];
-    for i in 0..12 {
+    let mut taken: [u32; machine::OUTPUT_VALUES] = [0; machine::OUTPUT_VALUES];
+    for i in 0..machine::OUTPUT_VALUES {
         taken[i] = sums[i];
         sums[i] = 0;
     }

@@ -2,67 +2,66 @@
 -- a record that is not refused is sound. Assumes nothing.
 use mathlib.Core.Path.{_≡_, refl, sym, ap, subst, _∙_}
 use mathlib.Core.Bool.{Bool, true, false, not, cond, _&&_, false≢true}
-use mathlib.Core.List.{List}
+use mathlib.Core.List.{List, [], _∷_}
 use Prim.Native.Nat.{ℕ}
 use lib.Dec.{eqb}
 use lib.ListN.{length, getD}
-use borrow.Author.Tests.{eq-eqb, ne-eqb, eqb-true}
-use Rattle.numbers.proofs.Tests.{split}
+use borrow.Author.Tests.{eq-eqb, ne-eqb, not-false}
 use Rattle.answer.specs.Answer.{isDone}
 use Rattle.answer.specs.declared.Answer.{Answer}
-use Rattle.answer.specs.declared.Answer.the-variants.{Done, RecordSize, RecordWord}
-use Rattle.machine.specs.Words.{cutTo, isVector, valid, IRQV, WORDS}
-use Rattle.machine.specs.Calls.{sized, checked, fresh, resetRecord, Resets}
+use Rattle.answer.specs.declared.Answer.the-variants.{Done, RecordLength, RecordInvalid}
+use Rattle.answer.proofs.Refusals.{none-holds}
+use Rattle.machine.specs.Words.{cutTo, isVector, valid, IRQV, RECORD_WORDS}
+use Rattle.machine.specs.Check.{wrongLength, notValid, checked}
+use Rattle.machine.specs.Reset.{resetAnswer, fresh, resetRecord, Resets}
 use Rattle.machine.proofs.Valid.{Sound, sound, is-valid}
 
 module _ (m : List ℕ) where
-  pub wrong-size : (length m ≡ WORDS → ⊥) → sized m ≡ RecordSize
-  unfolding sized
-  wrong-size h = rw (ne-eqb (length m) WORDS h)
+  pub wrong-size : (length m ≡ RECORD_WORDS → ⊥) → resetAnswer m ≡ RecordLength
+  unfolding resetAnswer
+  wrong-size h = rw (ne-eqb (length m) RECORD_WORDS h)
 
-  pub right-size : length m ≡ WORDS → sized m ≡ Done
-  unfolding sized
-  right-size h = rw (eq-eqb (length m) WORDS h)
+  pub right-size : length m ≡ RECORD_WORDS → resetAnswer m ≡ Done
+  unfolding resetAnswer
+  right-size h = rw (eq-eqb (length m) RECORD_WORDS h)
 
-  pub check-size : (length m ≡ WORDS → ⊥) → checked m ≡ RecordSize
+  pub check-size : (length m ≡ RECORD_WORDS → ⊥) → checked m ≡ RecordLength
   unfolding checked
-  check-size h = rw (wrong-size h)
+  check-size h = rw (ne-eqb (length m) RECORD_WORDS h)
 
-  pub check-stray : length m ≡ WORDS → cutTo m WORDS ≡ false → checked m ≡ RecordWord
+  pub check-stray : length m ≡ RECORD_WORDS → cutTo m RECORD_WORDS ≡ false → checked m ≡ RecordInvalid
   unfolding checked valid
-  check-stray h k = rw (right-size h, eq-eqb (length m) WORDS h, k)
+  check-stray h k = rw (eq-eqb (length m) RECORD_WORDS h, k)
 
-  pub check-vector : length m ≡ WORDS → cutTo m WORDS ≡ true → (b : Bool) → isVector (getD m IRQV 0) ≡ b → checked m ≡ cond b Done RecordWord
+  pub check-vector : length m ≡ RECORD_WORDS → cutTo m RECORD_WORDS ≡ true → (b : Bool) → isVector (getD m IRQV 0) ≡ b → checked m ≡ cond b Done RecordInvalid
   unfolding checked valid
-  check-vector h k true q = rw (right-size h, eq-eqb (length m) WORDS h, k, q)
-  check-vector h k false q = rw (right-size h, eq-eqb (length m) WORDS h, k, q)
+  check-vector h k true q = rw (eq-eqb (length m) RECORD_WORDS h, k, q)
+  check-vector h k false q = rw (eq-eqb (length m) RECORD_WORDS h, k, q)
 
   pub check-valid : Sound m → checked m ≡ Done
   unfolding checked
-  check-valid s = rw (right-size (s .size), is-valid m s)
+  check-valid s = rw (eq-eqb (length m) RECORD_WORDS (s .size), is-valid m s)
 
--- the other way round
-not-size : RecordSize ≡ Done → ⊥
-not-size e = false≢true (ap isDone e)
+-- the other way round: neither of the check's tests holds of a sound record, and of no other
+pub sound-tests : (m : List ℕ) → Sound m → (wrongLength m ≡ false) × (notValid m ≡ false)
+sound-tests m s = (rw (eq-eqb (length m) RECORD_WORDS (s .size)), rw (is-valid m s))
 
-not-word : RecordWord ≡ Done → ⊥
-not-word e = false≢true (ap isDone e)
+pub tests-sound : (m : List ℕ) → notValid m ≡ false → Sound m
+tests-sound m h = sound m (not-false (valid m) h)
 
 pub not-refused : (m : List ℕ) → checked m ≡ Done → Sound m
 unfolding checked
-not-refused m e = split (Sound m) (eqb (length m) WORDS)
-    (λ t. split (Sound m) (valid m)
-    (λ v. sound m v)
-    (λ v. absurd (not-word (sym (rw (right-size m (eqb-true (length m) WORDS t), v) refl) ∙ e))))
-    (λ t. absurd (not-size (sym (check-size m (λ h. false≢true (sym t ∙ eq-eqb (length m) WORDS h))) ∙ e)))
+not-refused m e =
+    let n = none-holds ((wrongLength m, RecordLength) ∷ (notValid m, RecordInvalid) ∷ []) (refl, (refl, tt)) (ap isDone e) in
+    tests-sound m (n .1 .0)
 
 -- ---- reset
 
-pub reset-refused : (m : List ℕ) → (length m ≡ WORDS → ⊥) → Resets m RecordSize m
+pub reset-refused : (m : List ℕ) → (length m ≡ RECORD_WORDS → ⊥) → Resets m RecordLength m
 unfolding resetRecord
 reset-refused m h = record { answers = sym (wrong-size m h); leaves = rw (wrong-size m h) }
 
-pub reset-done : (m n : List ℕ) → length m ≡ WORDS → n ≡ fresh → Resets m Done n
+pub reset-done : (m n : List ℕ) → length m ≡ RECORD_WORDS → n ≡ fresh → Resets m Done n
 unfolding resetRecord
 reset-done m n h e = record { answers = sym (right-size m h); leaves = rw (right-size m h) e }
 

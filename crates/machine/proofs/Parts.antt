@@ -8,7 +8,7 @@ use native.Mathlib.Omega.{arith}
 use lib.ListN.{length, getD, set, take, drop, length-take, length-drop, length-append, length-set, List·getD-append}
 use lib.Seq.{getD-take, getD-drop, getD-append-add, getD-set-other, length-take-le, take-set-lt, take-at, drop-at, drop-set-add, ext-getD}
 use Rattle.numbers.proofs.Tests.{cases}
-use Rattle.machine.specs.Words.{WORDS}
+use Rattle.machine.specs.Words.{PAGE, RECORD_WORDS}
 use Rattle.machine.specs.Voices.{voiceAt, putVoice}
 
 -- ---- reading
@@ -89,5 +89,5 @@ module _ (m : List ℕ) (v : ℕ) (w : List ℕ) (long : length w ≡ 20) (fits 
 
 -- ---- the words above the voices
 
-pub voice-set-above : (m : List ℕ) (v i x : ℕ) → length m ≡ WORDS → v < 32 → 640 ≤ i → voiceAt (set m i x) v ≡ voiceAt m v
+pub voice-set-above : (m : List ℕ) (v i x : ℕ) → length m ≡ RECORD_WORDS → v < 32 → PAGE ≤ i → voiceAt (set m i x) v ≡ voiceAt m v
 voice-set-above m v i x l h k = voice-set-out m v i x (omega arith) (λ j d e. omega arith)

@@ -14,9 +14,9 @@ use lib.ListN.{length, getD, set, length-set}
 use lib.Seq.{getD-set-same, getD-set-other}
 use borrow.Author.Tests.{eq-eqb, eqb-true, lt-ltb}
 use Rattle.numbers.proofs.Tests.{cases, all-at}
-use Rattle.machine.specs.Words.{WORDS, ABOVE, PAGE, IRQV, SUMS, voiceBits, aboveBits, bitsOf, cut, cutTo, isVector, valid}
+use Rattle.machine.specs.Words.{RECORD_WORDS, PAGE, IRQV, SUMS, voiceBits, commonBits, bitsOf, cut, cutTo, isVector, valid}
 use Rattle.machine.specs.Voices.{voiceAt, putVoice}
-use Rattle.machine.specs.Kept.{among, keptAt, gathered, gatheredKept, sumsKept, threeKept, aboveKept}
+use Rattle.machine.specs.Kept.{among, keptAt, gathered, gatheredKept, sumsKept, threeKept, commonKept}
 use Rattle.machine.proofs.Kept.{and-again, or-kept}
 use Rattle.machine.proofs.Parts.{voice-word, put-length, put-in, put-out}
 
@@ -49,8 +49,8 @@ module _ (t : ℕ → Bool) (all : ℕ → Bool) (none : all zero ≡ true) (one
 -- ---- validity by its parts
 
 pub record Sound (m : List ℕ) : Type 0 where
-  pub size : length m ≡ WORDS
-  pub words : (i : ℕ) → i < WORDS → cut i (getD m i 0) ≡ getD m i 0
+  pub size : length m ≡ RECORD_WORDS
+  pub words : (i : ℕ) → i < RECORD_WORDS → cut i (getD m i 0) ≡ getD m i 0
   pub vector : isVector (getD m IRQV 0) ≡ true
 
 -- the test of the first n words is that of each
@@ -65,22 +65,22 @@ tests-all m = from-each (keptAt m) (cutTo m) refl (λ j. refl)
 pub sound : (m : List ℕ) → valid m ≡ true → Sound m
 unfolding valid cut
 sound m h =
-    let a = both (eqb (length m) WORDS) (cutTo m WORDS && isVector (getD m IRQV 0)) h in
-    let b = both (cutTo m WORDS) (isVector (getD m IRQV 0)) (a .1) in
+    let a = both (eqb (length m) RECORD_WORDS) (cutTo m RECORD_WORDS && isVector (getD m IRQV 0)) h in
+    let b = both (cutTo m RECORD_WORDS) (isVector (getD m IRQV 0)) (a .1) in
     record {
-      size = eqb-true (length m) WORDS (a .0);
-      words = λ i k. eqb-true (cut i (getD m i 0)) (getD m i 0) (tests-each m WORDS (b .0) i k);
+      size = eqb-true (length m) RECORD_WORDS (a .0);
+      words = λ i k. eqb-true (cut i (getD m i 0)) (getD m i 0) (tests-each m RECORD_WORDS (b .0) i k);
       vector = b .1;
     }
 
 pub is-valid : (m : List ℕ) → Sound m → valid m ≡ true
 unfolding valid cut
 is-valid m s =
-    let e : cutTo m WORDS ≡ true = tests-all m WORDS (λ i k. eq-eqb (cut i (getD m i 0)) (getD m i 0) (s .words i k)) in
-    rw (eq-eqb (length m) WORDS (s .size), e, s .vector)
+    let e : cutTo m RECORD_WORDS ≡ true = tests-all m RECORD_WORDS (λ i k. eq-eqb (cut i (getD m i 0)) (getD m i 0) (s .words i k)) in
+    rw (eq-eqb (length m) RECORD_WORDS (s .size), e, s .vector)
 
 -- a word of a valid record is at most the bits that it keeps
-pub word-le : (m : List ℕ) → Sound m → (i : ℕ) → i < WORDS → getD m i 0 ≤ bitsOf i
+pub word-le : (m : List ℕ) → Sound m → (i : ℕ) → i < RECORD_WORDS → getD m i 0 ≤ bitsOf i
 unfolding cut
 word-le m s i h = subst (λ (x : ℕ). x ≤ bitsOf i) (s .words i h) (and-le-r (getD m i 0) (bitsOf i))
 
@@ -88,11 +88,11 @@ word-le m s i h = subst (λ (x : ℕ). x ≤ bitsOf i) (s .words i h) (and-le-r 
 
 pub bits-voice : (v j : ℕ) → v < 32 → j < 20 → bitsOf (20 * v + j) ≡ getD voiceBits j 0
 unfolding bitsOf
-bits-voice v j h k = let e : (20 * v + j) % 20 ≡ j = omega arith in rw (lt-ltb (20 * v + j) ABOVE (omega arith), e)
+bits-voice v j h k = let e : (20 * v + j) % 20 ≡ j = omega arith in rw (lt-ltb (20 * v + j) PAGE (omega arith), e)
 
 -- all twelve sums keep the same
 bits-sum : (v j : ℕ) → v < 3 → j < 4 → bitsOf (4 * v + (SUMS + j)) ≡ bitsOf SUMS
-unfolding bitsOf aboveBits
+unfolding bitsOf commonBits
 bits-sum v j h k =
     let e : SUMS + (4 * v + j) ≡ 4 * v + (SUMS + j) = omega arith in
     rw (← e) (eqb→eq (bitsOf (SUMS + (4 * v + j))) (bitsOf SUMS) (all-at (λ (n : ℕ). eqb (bitsOf (SUMS + n)) (bitsOf SUMS)) 12 tt (4 * v + j) (omega arith)))
@@ -130,8 +130,8 @@ found m i n k e b p = subst (λ (x : ℕ). keptAt m x ≡ true) e (rw b p)
 
 -- all voices at once, the sums and the words between four by four, or word by word: one test
 module _ (m : List ℕ) where
-  words-found : gatheredKept m 20 ≡ true → sumsKept m 4 ≡ true → aboveKept m 4 ≡ true → (i : ℕ) → i < WORDS → keptAt m i ≡ true
-  unfolding gatheredKept sumsKept aboveKept
+  words-found : gatheredKept m 20 ≡ true → sumsKept m 4 ≡ true → commonKept m 4 ≡ true → (i : ℕ) → i < RECORD_WORDS → keptAt m i ≡ true
+  unfolding gatheredKept sumsKept commonKept
   words-found hv hs ha i h = cases i PAGE (keptAt m i ≡ true)
       (λ l.
       let v = i / 20 in
@@ -143,7 +143,7 @@ module _ (m : List ℕ) where
       (λ l. cases i SUMS (keptAt m i ≡ true)
       (λ q.
       let j = (i - PAGE) % 4 in
-      let p = both _ _ (each (threeKept m) (aboveKept m) refl (λ j. refl) 4 ha j (omega arith)) in
+      let p = both _ _ (each (threeKept m) (commonKept m) refl (λ j. refl) 4 ha j (omega arith)) in
       let r = both _ _ (p .0) in
       cases i (PAGE + 4) (keptAt m i ≡ true)
       (λ a. found m i (PAGE + j) _ (omega arith) refl (r .0))
@@ -158,7 +158,7 @@ module _ (m : List ℕ) where
       found m i (4 * v + (SUMS + j)) (bitsOf SUMS) (omega arith) (bits-sum v j vk jk)
       (table-each m 4 3 (λ j. SUMS + j) (λ j. bitsOf SUMS) (sumsKept m) refl (λ j. refl) 4 hs v j vk jk)))
 
-  module _ (f : (i : ℕ) → i < WORDS → keptAt m i ≡ true) where
+  module _ (f : (i : ℕ) → i < RECORD_WORDS → keptAt m i ≡ true) where
     voices-found : gatheredKept m 20 ≡ true
     unfolding gatheredKept
     voices-found = table-all m 20 32 (λ j. j) (λ j. getD voiceBits j 0) (gatheredKept m) refl (λ j. refl) 20
@@ -169,18 +169,18 @@ module _ (m : List ℕ) where
     sums-found = table-all m 4 3 (λ j. SUMS + j) (λ j. bitsOf SUMS) (sumsKept m) refl (λ j. refl) 4
         (λ v j vk jk. rw (← (bits-sum v j vk jk)) (f (4 * v + (SUMS + j)) (omega arith)))
 
-    above-found : aboveKept m 4 ≡ true
-    unfolding aboveKept
-    above-found = from-each (threeKept m) (aboveKept m) refl (λ j. refl) 4
+    above-found : commonKept m 4 ≡ true
+    unfolding commonKept
+    above-found = from-each (threeKept m) (commonKept m) refl (λ j. refl) 4
         (λ l k. ap₂ _&&_ (ap₂ _&&_ (f (PAGE + l) (omega arith)) (f (PAGE + 4 + l) (omega arith))) (f (PAGE + 8 + l) (omega arith)))
 
-  pub words-test : (gatheredKept m 20 && sumsKept m 4 && aboveKept m 4) ≡ cutTo m WORDS
-  words-test = same-bool (gatheredKept m 20 && sumsKept m 4 && aboveKept m 4) (cutTo m WORDS)
+  pub words-test : (gatheredKept m 20 && sumsKept m 4 && commonKept m 4) ≡ cutTo m RECORD_WORDS
+  words-test = same-bool (gatheredKept m 20 && sumsKept m 4 && commonKept m 4) (cutTo m RECORD_WORDS)
       (λ h.
-      let p = both (gatheredKept m 20 && sumsKept m 4) (aboveKept m 4) h in
+      let p = both (gatheredKept m 20 && sumsKept m 4) (commonKept m 4) h in
       let q = both (gatheredKept m 20) (sumsKept m 4) (p .0) in
-      tests-all m WORDS (words-found (q .0) (q .1) (p .1)))
-      (λ h. let f = tests-each m WORDS h in ap₂ _&&_ (ap₂ _&&_ (voices-found f) (sums-found f)) (above-found f))
+      tests-all m RECORD_WORDS (words-found (q .0) (q .1) (p .1)))
+      (λ h. let f = tests-each m RECORD_WORDS h in ap₂ _&&_ (ap₂ _&&_ (voices-found f) (sums-found f)) (above-found f))
 
 -- ---- what keeps a record valid
 
@@ -189,14 +189,14 @@ unfolding cut
 cut-again i x = and-again x (bitsOf i)
 
 -- a store of a word that is cut already; of the vector, of one that is a vector
-pub sound-set : {m : List ℕ} (i x : ℕ) → Sound m → i < WORDS → cut i x ≡ x → (i ≡ IRQV → isVector x ≡ true) → Sound (set m i x)
+pub sound-set : {m : List ℕ} (i x : ℕ) → Sound m → i < RECORD_WORDS → cut i x ≡ x → (i ≡ IRQV → isVector x ≡ true) → Sound (set m i x)
 sound-set {m} i x s h c q = record {
   size = length-set m i x ∙ s .size;
   words = λ k l. at k l (ℕ-discrete k i);
   vector = still (ℕ-discrete IRQV i);
 }
   where
-    at : (k : ℕ) → k < WORDS → Dec (k ≡ i) → cut k (getD (set m i x) k 0) ≡ getD (set m i x) k 0
+    at : (k : ℕ) → k < RECORD_WORDS → Dec (k ≡ i) → cut k (getD (set m i x) k 0) ≡ getD (set m i x) k 0
     at k l (yes e) = rw (e, getD-set-same m i x 0 (omega (arith, s .size))) c
     at k l (no e) = rw (getD-set-other m i k x 0 e) (s .words k l)
 

@@ -8,7 +8,7 @@ use mathlib.Core.List.{List, [], _∷_}
 use lib.Bits.{bitAnd, bitOr}
 use lib.Dec.{eqb}
 use lib.ListN.{length, getD}
-use Rattle.machine.specs.Words.{PAGE, SUMS, voiceBits, bitsOf}
+use Rattle.machine.specs.Words.{VOICES, VOICE_WORDS, PAGE, SUMS, voiceBits, bitsOf}
 
 -- x has only bits that are among those of k
 abbrev pub among : ℕ → ℕ → Bool
@@ -25,7 +25,7 @@ gathered m d i (suc n) = bitOr (gathered m d i n) (getD m (d * n + i) 0)
 
 -- all bits that word j has in any voice
 abbrev pub inVoices : List ℕ → ℕ → ℕ
-inVoices m j = gathered m 20 j 32
+inVoices m j = gathered m VOICE_WORDS j VOICES
 
 -- all bits that sum l has, and the sums 4 and 8 after it
 abbrev pub inSums : List ℕ → ℕ → ℕ
@@ -46,9 +46,9 @@ abbrev pub threeKept : List ℕ → ℕ → Bool
 threeKept m l = keptAt m (PAGE + l) && keptAt m (PAGE + 4 + l) && keptAt m (PAGE + 8 + l)
 
 -- none of the first n words from PAGE on, nor of those 4 and 8 after each, has a bit that it does not keep
-unfoldable pub aboveKept : List ℕ → ℕ → Bool
-aboveKept m zero = true
-aboveKept m (suc l) = aboveKept m l && threeKept m l
+unfoldable pub commonKept : List ℕ → ℕ → Bool
+commonKept m zero = true
+commonKept m (suc l) = commonKept m l && threeKept m l
 
 -- no lane has a bit
 unfoldable pub clear : List ℕ → Bool

@@ -1,4 +1,5 @@
 pub mod Words
 pub mod Voices
-pub mod Calls
+pub mod Check
+pub mod Reset
 pub mod Kept

@@ -2,11 +2,12 @@
 use Prim.Native.Nat.{ℕ, _*_}
 use mathlib.Core.List.{List, _++_}
 use lib.ListN.{take, drop}
+use Rattle.machine.specs.Words.{VOICE_WORDS}
 
 -- the words of voice v
 unfoldable pub voiceAt : List ℕ → ℕ → List ℕ
-voiceAt m v = take 20 (drop (20 * v) m)
+voiceAt m v = take VOICE_WORDS (drop (VOICE_WORDS * v) m)
 
 -- the record with those of voice v replaced by w
 unfoldable pub putVoice : List ℕ → ℕ → List ℕ → List ℕ
-putVoice m v w = take (20 * v) m ++ (w ++ drop 20 (drop (20 * v) m))
+putVoice m v w = take (VOICE_WORDS * v) m ++ (w ++ drop VOICE_WORDS (drop (VOICE_WORDS * v) m))

@@ -3,15 +3,62 @@ ghost use mathlib.Core.Path.{_≡_};
 ghost use mathlib.Core.Bool.{_&&_};
 ghost use Prim.Native.Nat.{_+_, _<_, _≤_};
 ghost use lib.ListN.{length};
-ghost use Rattle.machine.specs.Words.{bitsOf, voiceBits, aboveBits, WORDS as Words·WORDS};
-ghost use Rattle.machine.specs.Kept.{inVoices, gatheredKept, sumsKept, aboveKept, Lanes};
-ghost use Rattle.machine.specs.Calls.{checked, Resets, fresh};
-ghost use Rattle.machine.specs.Calls.{resetWord as Calls·resetWord};
+ghost use Rattle.machine.specs.Words.{bitsOf, voiceBits, commonBits, RECORD_WORDS as Words·RECORD_WORDS, O3N2 as Words·O3N2};
+ghost use Rattle.machine.specs.Kept.{inVoices, gatheredKept, sumsKept, commonKept, Lanes};
+ghost use Rattle.machine.specs.Check.{checked};
+ghost use Rattle.machine.specs.Reset.{Resets, fresh};
+ghost use Rattle.machine.specs.Reset.{resetWord as Reset·resetWord};
 use answer::Answer;
 
-pub const WORDS: usize = 663;
+// How many words a record has; how many voices it has, and how many words each.
+pub const RECORD_WORDS: usize = 663;
 
-// The words above the voices.
+pub const VOICES: usize = 32;
+
+pub const VOICE_WORDS: usize = 20;
+
+// The words of a voice, from its first.
+pub const CR: usize = 0;
+
+pub const FC: usize = 1;
+
+pub const LVOL: usize = 2;
+
+pub const LVRAMP: usize = 3;
+
+pub const RVOL: usize = 4;
+
+pub const RVRAMP: usize = 5;
+
+pub const ECOUNT: usize = 6;
+
+pub const K2: usize = 7;
+
+pub const K2RAMP: usize = 8;
+
+pub const K1: usize = 9;
+
+pub const K1RAMP: usize = 10;
+
+pub const START: usize = 11;
+
+pub const END: usize = 12;
+
+pub const ACCUM: usize = 13;
+
+pub const O4N1: usize = 14;
+
+pub const O3N1: usize = 15;
+
+pub const O3N2: usize = 16;
+
+pub const O2N1: usize = 17;
+
+pub const O2N2: usize = 18;
+
+pub const O1N1: usize = 19;
+
+// The words after the voices', which all voices have in common.
 pub const PAGE: usize = 640;
 
 pub const IRQV: usize = 641;
@@ -34,18 +81,23 @@ pub const WRITE: usize = 649;
 
 pub const READ: usize = 650;
 
+// The channel sums, 0L, 0R to 5L, 5R, one for each value that a frame puts out; and the word after the last.
 pub const SUMS: usize = 651;
 
-// The word after the last sum.
-pub const SUMS_END: usize = 663;
+pub const OUTPUT_VALUES: usize = 12;
+
+pub const SUMS_END: usize = SUMS + OUTPUT_VALUES;
+
+// What the interrupt vector holds where it names no voice.
+pub const NO_VOICE: u32 = 128;
 
 // The bits kept by a filter word of a voice, and by a sum: the check holds four of them at a time against one mask.
 const FILTER_BITS: u32 = 0x3FFFF;
 
 const SUM_BITS: u32 = 0x7F_FFFF;
 
-// The bits kept by a voice's words, and by the words above the voices.
-const VOICE_BITS: [u32; 20] = [
+// The bits kept by a voice's words, and by the common words.
+const VOICE_BITS: [u32; VOICE_WORDS] = [
     0xFFFF, // CR
     0x1FFFF, // FC
     0xFFFF, // LVOL
@@ -68,7 +120,7 @@ const VOICE_BITS: [u32; 20] = [
     FILTER_BITS, // O1(n-1)
 ];
 
-const ABOVE_BITS: [u32; 23] = [
+const COMMON_BITS: [u32; 23] = [
     0x7F, // PAGE
     0xFF, // IRQV
     0x3FF, // PAR
@@ -96,15 +148,15 @@ const ABOVE_BITS: [u32; 23] = [
 
 // The bits that word i keeps.
 pub fn bits_of(i: usize) -> u32
-    requires { ⌜ i < Words·WORDS ⌝ }
+    requires { ⌜ i < Words·RECORD_WORDS ⌝ }
     ensures { λ r. ⌜ r ≡ bitsOf i ⌝ }
 {
     if i < PAGE {
-        let j = i % 20;
+        let j = i % VOICE_WORDS;
         VOICE_BITS[j]
     } else {
         let j = i - PAGE;
-        ABOVE_BITS[j]
+        COMMON_BITS[j]
     }
 }
 
@@ -113,32 +165,32 @@ pub fn bits_of(i: usize) -> u32
 pub fn check(m: &[u32]) -> Answer
     ensures { λ r. ⌜ r ≡ checked (now (m .entry)) ⌝ }
 {
-    if m.len() != WORDS {
-        return Answer::RecordSize;
+    if m.len() != RECORD_WORDS {
+        return Answer::RecordLength;
     }
     let kept = VOICE_BITS;
     let mut stray: [u32; 4] = [0; 4];
     for g in 0..4 {
         look_at_four(m, 4 * g, &kept, &mut stray);
     }
-    let above = ABOVE_BITS;
+    let above = COMMON_BITS;
     look_at_rest(m, &above, &mut stray);
     if stray[0] | stray[1] | stray[2] | stray[3] != 0 {
-        return Answer::RecordWord;
+        return Answer::RecordInvalid;
     }
     let vector = m[IRQV];
-    if vector < 32 {
+    if vector < VOICES as u32 {
         return Answer::Done;
     }
-    if vector == 128 {
+    if vector == NO_VOICE {
         return Answer::Done;
     }
-    Answer::RecordWord
+    Answer::RecordInvalid
 }
 
 // The stray bits of the voices' words j to j + 3 go into the lanes, a word to a lane.
 fn look_at_four(m: &[u32], j: usize, kept: &[u32; 20], stray: &mut [u32; 4])
-    requires { ⌜ length (now m) ≡ Words·WORDS ⌝ }
+    requires { ⌜ length (now m) ≡ Words·RECORD_WORDS ⌝ }
     requires { ⌜ j + 4 ≤ 20 ⌝ }
     requires { ⌜ now kept ≡ voiceBits ⌝ }
     requires { ⌜ Lanes (now stray) (gatheredKept (now m) j) ⌝ }
@@ -153,10 +205,10 @@ fn look_at_four(m: &[u32], j: usize, kept: &[u32; 20], stray: &mut [u32; 4])
 // The stray bits of the voices' last four words, of the sums and of the words between go into the lanes. One mask serves the last four
 // words and one the sums; only the words between have masks of their own. They are eleven, so the last lane takes the first sum twice.
 fn look_at_rest(m: &[u32], kept: &[u32; 23], stray: &mut [u32; 4])
-    requires { ⌜ length (now m) ≡ Words·WORDS ⌝ }
-    requires { ⌜ now kept ≡ aboveBits ⌝ }
+    requires { ⌜ length (now m) ≡ Words·RECORD_WORDS ⌝ }
+    requires { ⌜ now kept ≡ commonBits ⌝ }
     requires { ⌜ Lanes (now stray) (gatheredKept (now m) 16) ⌝ }
-    ensures { λ _. ⌜ Lanes (now (stray .exit)) (gatheredKept (now (m .entry)) 20 && sumsKept (now (m .entry)) 4 && aboveKept (now (m .entry)) 4) ⌝ }
+    ensures { λ _. ⌜ Lanes (now (stray .exit)) (gatheredKept (now (m .entry)) 20 && sumsKept (now (m .entry)) 4 && commonKept (now (m .entry)) 4) ⌝ }
 {
     for l in 0..4 {
         let all = gather_last(m, l);
@@ -175,26 +227,26 @@ fn look_at_rest(m: &[u32], kept: &[u32; 23], stray: &mut [u32; 4])
 
 // All bits that word j has in any voice. Its bits are kept alike in all of them, so they are held against the mask once.
 fn gather(m: &[u32], j: usize) -> u32
-    requires { ⌜ length (now m) ≡ Words·WORDS ⌝ }
+    requires { ⌜ length (now m) ≡ Words·RECORD_WORDS ⌝ }
     requires { ⌜ j < 20 ⌝ }
     ensures { λ r. ⌜ r ≡ inVoices (now (m .entry)) j ⌝ }
 {
     let mut all: u32 = 0;
-    for v in 0..32 {
-        all = all | m[20 * v + j];
+    for v in 0..VOICES {
+        all = all | m[VOICE_WORDS * v + j];
     }
     all
 }
 
-// The same of word 16 + l. A function with two callers is not put in line, so the last four words have one of their own.
+// The same of word O3N2 + l. A function with two callers is not put in line, so the last four words have one of their own.
 fn gather_last(m: &[u32], l: usize) -> u32
-    requires { ⌜ length (now m) ≡ Words·WORDS ⌝ }
+    requires { ⌜ length (now m) ≡ Words·RECORD_WORDS ⌝ }
     requires { ⌜ l < 4 ⌝ }
-    ensures { λ r. ⌜ r ≡ inVoices (now (m .entry)) (16 + l) ⌝ }
+    ensures { λ r. ⌜ r ≡ inVoices (now (m .entry)) (Words·O3N2 + l) ⌝ }
 {
     let mut all: u32 = 0;
-    for v in 0..32 {
-        all = all | m[20 * v + 16 + l];
+    for v in 0..VOICES {
+        all = all | m[VOICE_WORDS * v + O3N2 + l];
     }
     all
 }
@@ -203,37 +255,37 @@ fn gather_last(m: &[u32], l: usize) -> u32
 pub fn reset(m: &mut [u32]) -> Answer
     ensures { λ r. ⌜ Resets (now (m .entry)) r (now (m .exit)) ⌝ }
 {
-    if m.len() != WORDS {
-        return Answer::RecordSize;
+    if m.len() != RECORD_WORDS {
+        return Answer::RecordLength;
     }
     fill(m);
     Answer::Done
 }
 
 fn fill(m: &mut [u32])
-    requires { ⌜ length (now m) ≡ Words·WORDS ⌝ }
+    requires { ⌜ length (now m) ≡ Words·RECORD_WORDS ⌝ }
     ensures { λ _. ⌜ now (m .exit) ≡ fresh ⌝ }
 {
-    for i in 0..WORDS {
+    for i in 0..RECORD_WORDS {
         m[i] = reset_word(i);
     }
 }
 
 // Word i after a reset.
 fn reset_word(i: usize) -> u32
-    ensures { λ r. ⌜ r ≡ Calls·resetWord i ⌝ }
+    ensures { λ r. ⌜ r ≡ Reset·resetWord i ⌝ }
 {
     if i < PAGE {
-        if i % 20 == 0 {
+        if i % VOICE_WORDS == CR {
             return 3;
         }
         return 0;
     }
     match i {
-        641 => 128,
-        642 => 1023,
-        643 => 31,
-        644 => 23,
+        IRQV => NO_VOICE,
+        PAR => 1023,
+        ACTV => 31,
+        MODE => 23,
         _ => 0,
     }
 }

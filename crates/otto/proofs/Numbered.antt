@@ -3,31 +3,31 @@ use mathlib.Core.Path.{_≡_, ap, _∙_}
 use mathlib.Core.List.{List}
 use Prim.Native.Nat.{ℕ}
 use lib.IntN.{ℤ}
-use Rattle.answer.specs.Answer.{numberOf}
+use Rattle.answer.specs.Answer.{answerNumber}
 use Rattle.answer.specs.declared.Answer.{Answer}
-use Rattle.machine.specs.Calls.{Resets}
-use Rattle.registers.specs.Calls.{Writes, Reads, SetsPot}
+use Rattle.machine.specs.Reset.{Resets}
+use Rattle.registers.specs.Access.{Writes, Reads, SetsPot}
 use Rattle.frame.specs.Frame.{Frames}
 use Rattle.calls.specs.Calls.{Reset, Write, SetPot, answerTo, after, byteFrom, outputFrom}
-use Rattle.otto.specs.Promises.{Calls, Reading, Framing}
+use Rattle.otto.specs.Promises.{Calling, Reading, Framing}
 
-module _ {m later : List ℕ} {a : Answer} {n : ℕ} (number : n ≡ numberOf a) where
-  pub reset-number : Resets m a later → Calls m Reset n later
+module _ {m later : List ℕ} {a : Answer} {n : ℕ} (number : n ≡ answerNumber a) where
+  pub reset-number : Resets m a later → Calling m Reset n later
   unfolding answerTo after
-  reset-number p = record { answers = number ∙ ap numberOf (p .answers); leaves = p .leaves }
+  reset-number p = record { answers = number ∙ ap answerNumber (p .answers); leaves = p .leaves }
 
-  pub write-number : (address value : ℕ) → Writes m address value a later → Calls m (Write address value) n later
+  pub write-number : (address value : ℕ) → Writes m address value a later → Calling m (Write address value) n later
   unfolding answerTo after
-  write-number address value p = record { answers = number ∙ ap numberOf (p .answers); leaves = p .leaves }
+  write-number address value p = record { answers = number ∙ ap answerNumber (p .answers); leaves = p .leaves }
 
   pub read-number : (address : ℕ) {b byte : ℕ} → byte ≡ b → Reads m address a b later → Reading m address n byte later
   unfolding answerTo after byteFrom
-  read-number address e p = record { calls = record { answers = number ∙ ap numberOf (p .answers); leaves = p .leaves }; gives = e ∙ p .gives }
+  read-number address e p = record { calls = record { answers = number ∙ ap answerNumber (p .answers); leaves = p .leaves }; gives = e ∙ p .gives }
 
-  pub pot-number : (pot : ℕ) → SetsPot m pot a later → Calls m (SetPot pot) n later
+  pub pot-number : (pot : ℕ) → SetsPot m pot a later → Calling m (SetPot pot) n later
   unfolding answerTo after
-  pot-number pot p = record { answers = number ∙ ap numberOf (p .answers); leaves = p .leaves }
+  pot-number pot p = record { answers = number ∙ ap answerNumber (p .answers); leaves = p .leaves }
 
   pub frame-number : (memory : List ℕ) (out : List ℤ) {sound : List ℤ} → Frames m memory out a later sound → Framing m memory out n later sound
   unfolding answerTo after outputFrom
-  frame-number memory out p = record { calls = record { answers = number ∙ ap numberOf (p .answers); leaves = p .leaves }; sounds = p .gives }
+  frame-number memory out p = record { calls = record { answers = number ∙ ap answerNumber (p .answers); leaves = p .leaves }; sounds = p .gives }

@@ -4,9 +4,9 @@ use mathlib.Core.List.{List}
 use Prim.Native.Nat.{ℕ}
 use lib.IntN.{ℤ}
 use Rattle.calls.specs.Calls.{Call}
-use Rattle.otto.specs.Promises.{Calls, Reading, Framing}
+use Rattle.otto.specs.Promises.{Calling, Reading, Framing}
 
-pub one-call : {m : List ℕ} {c : Call} {a b : ℕ} {x y : List ℕ} → Calls m c a x → Calls m c b y → (a ≡ b) × (x ≡ y)
+pub one-call : {m : List ℕ} {c : Call} {a b : ℕ} {x y : List ℕ} → Calling m c a x → Calling m c b y → (a ≡ b) × (x ≡ y)
 one-call p q = (p .answers ∙ sym (q .answers), p .leaves ∙ sym (q .leaves))
 
 pub one-reading : {m : List ℕ} {address a b i j : ℕ} {x y : List ℕ} → Reading m address a i x → Reading m address b j y → (i ≡ j) × ((a ≡ b) × (x ≡ y))

@@ -4,20 +4,20 @@ use mathlib.Core.Path.{_≡_}
 use Prim.Native.Nat.{ℕ}
 use mathlib.Core.List.{List}
 use lib.IntN.{ℤ}
-use Rattle.answer.specs.Answer.{numberOf}
+use Rattle.answer.specs.Answer.{answerNumber}
 use Rattle.calls.specs.Calls.{Call, answerTo, after, byteFrom, outputFrom, Read, Frame}
 
 -- a call that is lent a record alone
-pub record Calls (m : List ℕ) (c : Call) (number : ℕ) (later : List ℕ) : Type 0 where
-  pub answers : number ≡ numberOf (answerTo m c)
+pub record Calling (m : List ℕ) (c : Call) (number : ℕ) (later : List ℕ) : Type 0 where
+  pub answers : number ≡ answerNumber (answerTo m c)
   pub leaves : later ≡ after m c
 
 -- a read, which is lent a place for its byte
 pub record Reading (m : List ℕ) (a : ℕ) (number byte : ℕ) (later : List ℕ) : Type 0 where
-  pub calls : Calls m (Read a) number later
+  pub calls : Calling m (Read a) number later
   pub gives : byte ≡ byteFrom m (Read a)
 
 -- a frame, which is lent sample memory and an output
 pub record Framing (m memory : List ℕ) (out : List ℤ) (number : ℕ) (later : List ℕ) (sound : List ℤ) : Type 0 where
-  pub calls : Calls m (Frame memory out) number later
+  pub calls : Calling m (Frame memory out) number later
   pub sounds : sound ≡ outputFrom m (Frame memory out)

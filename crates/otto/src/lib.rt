@@ -3,18 +3,18 @@
 ghost use mathlib.Core.Path.{_≡_};
 ghost use Rattle.codes.specs.Codes.{valueOf, Compressed};
 ghost use Rattle.calls.specs.Calls.{Reset, Write, SetPot};
-ghost use Rattle.otto.specs.Promises.{Calls, Reading, Framing};
+ghost use Rattle.otto.specs.Promises.{Calling, Reading, Framing};
 
 #[no_mangle]
 pub extern "C" fn otto_reset(record: &mut [u32]) -> u32
-    ensures { λ r. ⌜ Calls (now («record» .entry)) Reset r (now («record» .exit)) ⌝ }
+    ensures { λ r. ⌜ Calling (now («record» .entry)) Reset r (now («record» .exit)) ⌝ }
 {
     answer::number(machine::reset(record))
 }
 
 #[no_mangle]
 pub extern "C" fn otto_write(record: &mut [u32], address: u32, value: u8) -> u32
-    ensures { λ r. ⌜ Calls (now («record» .entry)) (Write address value) r (now («record» .exit)) ⌝ }
+    ensures { λ r. ⌜ Calling (now («record» .entry)) (Write address value) r (now («record» .exit)) ⌝ }
 {
     answer::number(registers::write(record, address, value))
 }
@@ -31,7 +31,7 @@ pub extern "C" fn otto_read(record: &mut [u32], address: u32, byte: &mut u8) -> 
 
 #[no_mangle]
 pub extern "C" fn otto_set_pot(record: &mut [u32], pot: u32) -> u32
-    ensures { λ r. ⌜ Calls (now («record» .entry)) (SetPot pot) r (now («record» .exit)) ⌝ }
+    ensures { λ r. ⌜ Calling (now («record» .entry)) (SetPot pot) r (now («record» .exit)) ⌝ }
 {
     answer::number(registers::set_pot(record, pot))
 }

@@ -17,16 +17,16 @@ use Rattle.answer.specs.Answer.{isDone}
 use Rattle.answer.specs.declared.Answer.the-variants.{Pot as PotRefused}
 use Rattle.control.specs.Control.{IRQ, bitOf, withBit}
 use Rattle.control.proofs.Bits.{read-other}
-use Rattle.machine.specs.Words.{PAGE, IRQV, PAR, WRITE, READ, wordOf, cut, valid, WORDS}
+use Rattle.machine.specs.Words.{CR, PAGE, IRQV, PAR, WRITE, READ, voiceWord, cut, valid, RECORD_WORDS}
 use Rattle.machine.specs.Voices.{voiceAt}
 use Rattle.machine.proofs.Parts.{voice-set, voice-set-out}
 use Rattle.machine.proofs.Valid.{Sound, sound, is-valid}
 use Rattle.registers.specs.declared.Register.{Register}
 use Rattle.registers.specs.declared.Register.the-variants.{Word, Sum, Pot, Vector, Nothing}
-use Rattle.registers.specs.Registers.{registerOf, stored, written, readAs, acknowledged, touched, opened}
-use Rattle.registers.specs.Calls.{byteAnswer, writeRecord, readRecord, readByte, potAnswer, potRecord}
+use Rattle.registers.specs.Registers.{registerOf, stored, byteWritten, readAs, acknowledged, sideEffect, byteRead}
+use Rattle.registers.specs.Access.{byteAnswer, writeRecord, readRecord, readByte, potAnswer, potRecord}
 use Rattle.registers.proofs.Laws.{asked-back, byte-done}
-use Rattle.registers.proofs.Valid.{written-sound, opened-sound, pot-sound}
+use Rattle.registers.proofs.Valid.{write-sound, read-sound, pot-sound}
 use Rattle.registers.proofs.Whole.{wholeWrite, whole-write}
 
 -- ---- a valid record stays valid under every call
@@ -34,15 +34,15 @@ use Rattle.registers.proofs.Whole.{wholeWrite, whole-write}
 pub write-valid : (m : List ℕ) (a b : ℕ) → b < 256 → valid m ≡ true → valid (writeRecord m a b) ≡ true
 unfolding writeRecord
 write-valid m a b h v =
-    either (λ (n : List ℕ). valid n ≡ true) (isDone (byteAnswer m a)) (written m (a / 4) (a % 4) b) m
-    (λ d. let p = byte-done m a d .1 in is-valid (written m (a / 4) (a % 4) b) (written-sound m (a / 4) (a % 4) b (sound m v) (omega arith) (omega arith) h))
+    either (λ (n : List ℕ). valid n ≡ true) (isDone (byteAnswer m a)) (byteWritten m (a / 4) (a % 4) b) m
+    (λ d. let p = byte-done m a d .1 in is-valid (byteWritten m (a / 4) (a % 4) b) (write-sound m (a / 4) (a % 4) b (sound m v) (omega arith) (omega arith) h))
     (λ _. v)
 
 pub read-valid : (m : List ℕ) (a : ℕ) → valid m ≡ true → valid (readRecord m a) ≡ true
 unfolding readRecord
 read-valid m a v =
-    either (λ (n : List ℕ). valid n ≡ true) (isDone (byteAnswer m a)) (opened m (a / 4) (a % 4)) m
-    (λ d. let p = byte-done m a d .1 in is-valid (opened m (a / 4) (a % 4)) (opened-sound m (a / 4) (a % 4) (sound m v) (omega arith)))
+    either (λ (n : List ℕ). valid n ≡ true) (isDone (byteAnswer m a)) (byteRead m (a / 4) (a % 4)) m
+    (λ d. let p = byte-done m a d .1 in is-valid (byteRead m (a / 4) (a % 4)) (read-sound m (a / 4) (a % 4) (sound m v) (omega arith)))
     (λ _. v)
 
 pub pot-valid : (m : List ℕ) (p : ℕ) → valid m ≡ true → valid (potRecord m p) ≡ true
@@ -69,26 +69,26 @@ pot-refused m p h = rw h
 -- ---- what a read can change
 
 -- a fact of the record holds after a read if it holds of what a register's byte 0 leaves
-after-read : (P : List ℕ → Type 0) (m : List ℕ) (a : ℕ) → P m → (Sound m → (register : Register) → P (touched (set m READ (readAs m register)) register))
+after-read : (P : List ℕ → Type 0) (m : List ℕ) (a : ℕ) → P m → (Sound m → (register : Register) → P (sideEffect (set m READ (readAs m register)) register))
     → P (readRecord m a)
-unfolding readRecord opened
+unfolding readRecord byteRead
 after-read P m a h f =
-    either P (isDone (byteAnswer m a)) (opened m (a / 4) (a % 4)) m
+    either P (isDone (byteAnswer m a)) (byteRead m (a / 4) (a % 4)) m
     (λ d. either P (eqb (a % 4) 0) _ m (λ _. f (byte-done m a d .0) (registerOf (getD m PAGE 0) (a / 4))) (λ _. h))
     (λ _. h)
 
 module _ (m : List ℕ) (i : ℕ) (not-vector : i ≢ IRQV) where
-  acknowledged-keeps : i ≢ wordOf (getD m IRQV 0) 0 → getD (acknowledged m) i 0 ≡ getD m i 0
+  acknowledged-keeps : i ≢ voiceWord (getD m IRQV 0) CR → getD (acknowledged m) i 0 ≡ getD m i 0
   unfolding acknowledged
   acknowledged-keeps h =
-      let cr = wordOf (getD m IRQV 0) 0 in
+      let cr = voiceWord (getD m IRQV 0) CR in
       let x = withBit IRQ 0 (getD m cr 0) in
       either (λ (n : List ℕ). getD n i 0 ≡ getD m i 0) (ltb (getD m IRQV 0) 32) (set (set m cr x) IRQV 128) m
       (λ _. getD-set-other (set m cr x) IRQV i 128 0 not-vector ∙ getD-set-other m cr i x 0 h)
       (λ _. refl)
 
-  touched-keeps : (register : Register) → i ≢ PAR → i ≢ wordOf (getD m IRQV 0) 0 → getD (touched m register) i 0 ≡ getD m i 0
-  unfolding touched
+  touched-keeps : (register : Register) → i ≢ PAR → i ≢ voiceWord (getD m IRQV 0) CR → getD (sideEffect m register) i 0 ≡ getD m i 0
+  unfolding sideEffect
   touched-keeps (Word j) p h = refl
   touched-keeps (Sum j) p h = refl
   touched-keeps Pot p h = getD-set-other m PAR i 1023 0 p
@@ -96,52 +96,52 @@ module _ (m : List ℕ) (i : ℕ) (not-vector : i ≢ IRQV) where
   touched-keeps Nothing p h = refl
 
 -- Every word is as it was, but for the read latch, PAR, IRQV and the control register of the voice that the vector names.
-pub read-keeps : (m : List ℕ) (a i : ℕ) → i ≢ READ → i ≢ PAR → i ≢ IRQV → i ≢ wordOf (getD m IRQV 0) 0 → getD (readRecord m a) i 0 ≡ getD m i 0
+pub read-keeps : (m : List ℕ) (a i : ℕ) → i ≢ READ → i ≢ PAR → i ≢ IRQV → i ≢ voiceWord (getD m IRQV 0) CR → getD (readRecord m a) i 0 ≡ getD m i 0
 read-keeps m a i l p q h = after-read (λ (n : List ℕ). getD n i 0 ≡ getD m i 0) m a refl
     (λ _ register.
     let x = readAs m register in
-    let same : getD (set m READ x) IRQV 0 ≡ getD m IRQV 0 = getD-set-other m READ IRQV x 0 (λ (z : IRQV ≡ 650). omega arith) in
-    touched-keeps (set m READ x) i q register p (subst (λ (v : ℕ). i ≢ wordOf v 0) (sym same) h) ∙ getD-set-other m READ i x 0 l)
+    let same : getD (set m READ x) IRQV 0 ≡ getD m IRQV 0 = getD-set-other m READ IRQV x 0 (λ (z : IRQV ≡ READ). omega arith) in
+    touched-keeps (set m READ x) i q register p (subst (λ (v : ℕ). i ≢ voiceWord v CR) (sym same) h) ∙ getD-set-other m READ i x 0 l)
 
-module _ (m : List ℕ) (long : length m ≡ WORDS) (v n : ℕ) (hv : v < 32) (other : n ≢ IRQ) where
-  cr-bit : (j : ℕ) → j < WORDS → Dec (wordOf v 0 ≡ j) → bitOf n (getD (set m j (withBit IRQ 0 (getD m j 0))) (wordOf v 0) 0) ≡ bitOf n (getD m (wordOf v 0) 0)
+module _ (m : List ℕ) (long : length m ≡ RECORD_WORDS) (v n : ℕ) (hv : v < 32) (other : n ≢ IRQ) where
+  cr-bit : (j : ℕ) → j < RECORD_WORDS → Dec (voiceWord v CR ≡ j) → bitOf n (getD (set m j (withBit IRQ 0 (getD m j 0))) (voiceWord v CR) 0) ≡ bitOf n (getD m (voiceWord v CR) 0)
   cr-bit j h (yes e) = rw (e, getD-set-same m j (withBit IRQ 0 (getD m j 0)) 0 (omega arith)) (read-other n IRQ 0 (getD m j 0) (omega arith) other)
-  cr-bit j h (no e) = rw (getD-set-other m j (wordOf v 0) (withBit IRQ 0 (getD m j 0)) 0 e)
+  cr-bit j h (no e) = rw (getD-set-other m j (voiceWord v CR) (withBit IRQ 0 (getD m j 0)) 0 e)
 
-  acknowledged-bit : bitOf n (getD (acknowledged m) (wordOf v 0) 0) ≡ bitOf n (getD m (wordOf v 0) 0)
+  acknowledged-bit : bitOf n (getD (acknowledged m) (voiceWord v CR) 0) ≡ bitOf n (getD m (voiceWord v CR) 0)
   unfolding acknowledged
   acknowledged-bit =
-      let cr = wordOf (getD m IRQV 0) 0 in
+      let cr = voiceWord (getD m IRQV 0) CR in
       let x = withBit IRQ 0 (getD m cr 0) in
-      either (λ (l : List ℕ). bitOf n (getD l (wordOf v 0) 0) ≡ bitOf n (getD m (wordOf v 0) 0)) (ltb (getD m IRQV 0) 32) (set (set m cr x) IRQV 128) m
+      either (λ (l : List ℕ). bitOf n (getD l (voiceWord v CR) 0) ≡ bitOf n (getD m (voiceWord v CR) 0)) (ltb (getD m IRQV 0) 32) (set (set m cr x) IRQV 128) m
       (λ t.
       let h = ltb-true (getD m IRQV 0) 32 t in
-      ap (bitOf n) (getD-set-other (set m cr x) IRQV (wordOf v 0) 128 0 (λ z. omega arith)) ∙ cr-bit cr (omega arith) (ℕ-discrete (wordOf v 0) cr))
+      ap (bitOf n) (getD-set-other (set m cr x) IRQV (voiceWord v CR) 128 0 (λ z. omega arith)) ∙ cr-bit cr (omega arith) (ℕ-discrete (voiceWord v CR) cr))
       (λ _. refl)
 
-  touched-bit : (register : Register) → bitOf n (getD (touched m register) (wordOf v 0) 0) ≡ bitOf n (getD m (wordOf v 0) 0)
-  unfolding touched
+  touched-bit : (register : Register) → bitOf n (getD (sideEffect m register) (voiceWord v CR) 0) ≡ bitOf n (getD m (voiceWord v CR) 0)
+  unfolding sideEffect
   touched-bit (Word j) = refl
   touched-bit (Sum j) = refl
-  touched-bit Pot = ap (bitOf n) (getD-set-other m PAR (wordOf v 0) 1023 0 (λ z. omega arith))
+  touched-bit Pot = ap (bitOf n) (getD-set-other m PAR (voiceWord v CR) 1023 0 (λ z. omega arith))
   touched-bit Vector = acknowledged-bit
   touched-bit Nothing = refl
 
 -- And of a control register every bit but the interrupt flag is as it was.
-pub read-flag : (m : List ℕ) (a v n : ℕ) → v < 32 → n ≢ IRQ → bitOf n (getD (readRecord m a) (wordOf v 0) 0) ≡ bitOf n (getD m (wordOf v 0) 0)
-read-flag m a v n h k = after-read (λ (l : List ℕ). bitOf n (getD l (wordOf v 0) 0) ≡ bitOf n (getD m (wordOf v 0) 0)) m a refl
+pub read-flag : (m : List ℕ) (a v n : ℕ) → v < 32 → n ≢ IRQ → bitOf n (getD (readRecord m a) (voiceWord v CR) 0) ≡ bitOf n (getD m (voiceWord v CR) 0)
+read-flag m a v n h k = after-read (λ (l : List ℕ). bitOf n (getD l (voiceWord v CR) 0) ≡ bitOf n (getD m (voiceWord v CR) 0)) m a refl
     (λ s register.
     let x = readAs m register in
     touched-bit (set m READ x) (length-set m READ x ∙ s .size) v n h k register
-    ∙ ap (bitOf n) (getD-set-other m READ (wordOf v 0) x 0 (λ z. omega arith)))
+    ∙ ap (bitOf n) (getD-set-other m READ (voiceWord v CR) x 0 (λ z. omega arith)))
 
 -- ---- a whole register write of a voice
 
 -- PAGE and register r name word j of voice v, and the four bytes of x are written to r in order.
 module _ (m : List ℕ) (r x v j : ℕ) (ok : valid m ≡ true) (hr : r < 16) (hx : x < 2 ^ 32) (hv : v < 32) (hj : j < 20)
-    (named : registerOf (getD m PAGE 0) r ≡ Word (wordOf v j)) where
+    (named : registerOf (getD m PAGE 0) r ≡ Word (voiceWord v j)) where
   -- The word takes x, cut to its bits, and the write latch is 0, whatever it held; nothing else changes.
-  pub whole-leaves : wholeWrite m r x ≡ set (set m (wordOf v j) (cut (wordOf v j) x)) WRITE 0
+  pub whole-leaves : wholeWrite m r x ≡ set (set m (voiceWord v j) (cut (voiceWord v j) x)) WRITE 0
   unfolding stored
   whole-leaves = whole-write m r x (sound m ok) hr hx ∙ rw named
 
@@ -153,14 +153,14 @@ module _ (m : List ℕ) (r x v j : ℕ) (ok : valid m ≡ true) (hr : r < 16) (h
   under-latch n u h e = voice-set-out n u WRITE 0 (omega (arith, fits u h)) (λ i k q. omega arith)
 
   -- So the voice has one word replaced,
-  pub whole-voice : voiceAt (wholeWrite m r x) v ≡ set (voiceAt m v) j (cut (wordOf v j) x)
+  pub whole-voice : voiceAt (wholeWrite m r x) v ≡ set (voiceAt m v) j (cut (voiceWord v j) x)
   whole-voice =
-      let z = cut (wordOf v j) x in
-      rw whole-leaves (under-latch (set m (wordOf v j) z) v hv (length-set m (wordOf v j) z) ∙ voice-set m v j z hj)
+      let z = cut (voiceWord v j) x in
+      rw whole-leaves (under-latch (set m (voiceWord v j) z) v hv (length-set m (voiceWord v j) z) ∙ voice-set m v j z hj)
 
   -- and every other voice is as it was.
   pub whole-other : (u : ℕ) → u < 32 → u ≢ v → voiceAt (wholeWrite m r x) u ≡ voiceAt m u
   whole-other u hu n =
-      let z = cut (wordOf v j) x in
+      let z = cut (voiceWord v j) x in
       rw whole-leaves
-      (under-latch (set m (wordOf v j) z) u hu (length-set m (wordOf v j) z) ∙ voice-set-out m u (wordOf v j) z (fits u hu) (λ i k q. n (omega arith)))
+      (under-latch (set m (voiceWord v j) z) u hu (length-set m (voiceWord v j) z) ∙ voice-set-out m u (voiceWord v j) z (fits u hu) (λ i k q. n (omega arith)))

@@ -3,7 +3,7 @@ use mathlib.Core.Path.{_≡_, sym, _∙_}
 use mathlib.Core.List.{List}
 use Prim.Native.Nat.{ℕ}
 use Rattle.answer.specs.declared.Answer.{Answer}
-use Rattle.registers.specs.Calls.{Writes, Reads, SetsPot}
+use Rattle.registers.specs.Access.{Writes, Reads, SetsPot}
 
 module _ {m : List ℕ} {r s : Answer} {x y : List ℕ} where
   pub one-write : {a b : ℕ} → Writes m a b r x → Writes m a b s y → (r ≡ s) × (x ≡ y)

@@ -13,11 +13,11 @@ use borrow.Author.Tests.{ltb-true}
 use Rattle.numbers.proofs.Tests.{either, all-at}
 use Rattle.control.specs.Control.{withBit, IRQ}
 use Rattle.control.proofs.Bits.{put-small}
-use Rattle.machine.specs.Words.{PAGE, IRQV, PAR, WRITE, READ, wordOf, voiceBits, aboveBits, bitsOf, cut, isVector, WORDS}
+use Rattle.machine.specs.Words.{CR, PAGE, IRQV, PAR, WRITE, READ, voiceWord, voiceBits, commonBits, bitsOf, cut, isVector, RECORD_WORDS}
 use Rattle.machine.proofs.Valid.{Sound, word-le, bits-voice, cut-again, sound-set}
 use Rattle.registers.specs.declared.Register.{Register}
 use Rattle.registers.specs.declared.Register.the-variants.{Word, Sum, Pot, Vector, Nothing}
-use Rattle.registers.specs.Registers.{registerOf, withByte, stored, written, readAs, acknowledged, touched, opened}
+use Rattle.registers.specs.Registers.{registerOf, withByte, stored, byteWritten, readAs, acknowledged, sideEffect, byteRead}
 use Rattle.registers.specs.Inside.{Inside}
 use Rattle.registers.proofs.Inside.{inside}
 
@@ -28,37 +28,36 @@ cut-low : (i n x : ℕ) → bitsOf i ≡ 2 ^ n - 1 → x < 2 ^ n → cut i x ≡
 unfolding cut
 cut-low i n x e h = rw e (and-mask x n ∙ mod-eq-of-lt h)
 
-bits-lt : (i : ℕ) → i < WORDS → bitsOf i < 2 ^ 32
-unfolding bitsOf voiceBits aboveBits
-bits-lt i h = ltb→lt (bitsOf i) (2 ^ 32) (all-at (λ j. ltb (bitsOf j) (2 ^ 32)) WORDS tt i h)
+bits-lt : (i : ℕ) → i < RECORD_WORDS → bitsOf i < 2 ^ 32
+unfolding bitsOf commonBits
+bits-lt i h = ltb→lt (bitsOf i) (2 ^ 32) (all-at (λ j. ltb (bitsOf j) (2 ^ 32)) RECORD_WORDS tt i h)
 
-pub word-lt : (m : List ℕ) → Sound m → (i : ℕ) → i < WORDS → getD m i 0 < 2 ^ 32
+pub word-lt : (m : List ℕ) → Sound m → (i : ℕ) → i < RECORD_WORDS → getD m i 0 < 2 ^ 32
 word-lt m s i h = omega (arith, word-le m s i h, bits-lt i h)
 
 -- CR of a voice is a word of 16 bits
-cr-bits : (v : ℕ) → v < 32 → bitsOf (wordOf v 0) ≡ 2 ^ 16 - 1
-unfolding voiceBits
+cr-bits : (v : ℕ) → v < 32 → bitsOf (voiceWord v CR) ≡ 2 ^ 16 - 1
 cr-bits v h = bits-voice v 0 h (omega arith)
 
-pub cr-lt : (m : List ℕ) → Sound m → (v : ℕ) → v < 32 → getD m (wordOf v 0) 0 < 65536
-cr-lt m s v h = omega (arith, word-le m s (wordOf v 0) (omega arith), cr-bits v h)
+pub cr-lt : (m : List ℕ) → Sound m → (v : ℕ) → v < 32 → getD m (voiceWord v CR) 0 < 65536
+cr-lt m s v h = omega (arith, word-le m s (voiceWord v CR) (omega arith), cr-bits v h)
 
 -- ---- the latches, which may hold any 32 bits, and the pot result
 
 -- a store of such a number, in a word that is not the vector
-low-sound : {m : List ℕ} (i n x : ℕ) → Sound m → i < WORDS → i ≢ IRQV → bitsOf i ≡ 2 ^ n - 1 → x < 2 ^ n → Sound (set m i x)
+low-sound : {m : List ℕ} (i n x : ℕ) → Sound m → i < RECORD_WORDS → i ≢ IRQV → bitsOf i ≡ 2 ^ n - 1 → x < 2 ^ n → Sound (set m i x)
 low-sound i n x s h v e l = sound-set i x s h (cut-low i n x e l) (λ z. absurd (v z))
 
 pub write-latch : {m : List ℕ} (x : ℕ) → Sound m → x < 2 ^ 32 → Sound (set m WRITE x)
-unfolding bitsOf aboveBits
+unfolding bitsOf commonBits
 write-latch x s h = low-sound WRITE 32 x s (omega arith) (λ z. omega arith) refl h
 
 read-latch : {m : List ℕ} (x : ℕ) → Sound m → x < 2 ^ 32 → Sound (set m READ x)
-unfolding bitsOf aboveBits
+unfolding bitsOf commonBits
 read-latch x s h = low-sound READ 32 x s (omega arith) (λ z. omega arith) refl h
 
 pub pot-sound : {m : List ℕ} (p : ℕ) → Sound m → p ≤ 1023 → Sound (set m PAR p)
-unfolding bitsOf aboveBits
+unfolding bitsOf commonBits
 pot-sound p s h = low-sound PAR 10 p s (omega arith) (λ z. omega arith) refl (omega arith)
 
 -- ---- writing
@@ -71,7 +70,7 @@ byte-lt (suc (suc zero)) b x h d e = omega arith
 byte-lt (suc (suc (suc zero))) b x h d e = omega arith
 byte-lt (suc (suc (suc (suc k)))) b x h d e = absurd (omega arith)
 
-store-sound : (m : List ℕ) (i x : ℕ) → Sound m → (i < WORDS) × (i ≡ IRQV → ⊥) → Sound (set m i (cut i x))
+store-sound : (m : List ℕ) (i x : ℕ) → Sound m → (i < RECORD_WORDS) × (i ≡ IRQV → ⊥) → Sound (set m i (cut i x))
 store-sound m i x s h = sound-set i (cut i x) s (h .0) (cut-again i x) (λ e. absurd (h .1 e))
 
 stored-sound : (m : List ℕ) (register : Register) (x : ℕ) → Sound m → Inside register → Sound (stored m register x)
@@ -82,9 +81,9 @@ stored-sound m Pot x s h = s
 stored-sound m Vector x s h = s
 stored-sound m Nothing x s h = s
 
-pub written-sound : (m : List ℕ) (r k b : ℕ) → Sound m → r < 16 → k < 4 → b < 256 → Sound (written m r k b)
-unfolding written
-written-sound m r k b s h d e =
+pub write-sound : (m : List ℕ) (r k b : ℕ) → Sound m → r < 16 → k < 4 → b < 256 → Sound (byteWritten m r k b)
+unfolding byteWritten
+write-sound m r k b s h d e =
     let latch = withByte k b (getD m WRITE 0) in
     either Sound (eqb k 3) _ _
     (λ _. write-latch 0 (stored-sound m (registerOf (getD m PAGE 0) r) latch s (inside (getD m PAGE 0) r h)) (omega arith))
@@ -105,10 +104,10 @@ pub latched : (m : List ℕ) (register : Register) → Sound m → Inside regist
 latched m register s h = read-latch (readAs m register) s (value-lt m register s h)
 
 acknowledged-sound : (m : List ℕ) → Sound m → Sound (acknowledged m)
-unfolding acknowledged isVector bitsOf aboveBits cut
+unfolding acknowledged isVector bitsOf commonBits cut
 acknowledged-sound m s =
     let v = getD m IRQV 0 in
-    let cr = wordOf v 0 in
+    let cr = voiceWord v CR in
     either Sound (ltb v 32) _ _
     (λ t.
     let h = ltb-true v 32 t in
@@ -118,17 +117,17 @@ acknowledged-sound m s =
     (omega arith) refl (λ _. refl))
     (λ _. s)
 
-touched-sound : (m : List ℕ) (register : Register) → Sound m → Sound (touched m register)
-unfolding touched
+touched-sound : (m : List ℕ) (register : Register) → Sound m → Sound (sideEffect m register)
+unfolding sideEffect
 touched-sound m (Word i) s = s
 touched-sound m (Sum i) s = s
 touched-sound m Pot s = pot-sound 1023 s (omega arith)
 touched-sound m Vector s = acknowledged-sound m s
 touched-sound m Nothing s = s
 
-pub opened-sound : (m : List ℕ) (r k : ℕ) → Sound m → r < 16 → Sound (opened m r k)
-unfolding opened
-opened-sound m r k s h =
+pub read-sound : (m : List ℕ) (r k : ℕ) → Sound m → r < 16 → Sound (byteRead m r k)
+unfolding byteRead
+read-sound m r k s h =
     let register = registerOf (getD m PAGE 0) r in
     either Sound (eqb k 0) _ _
     (λ _. touched-sound (set m READ (readAs m register)) register (latched m register s (inside (getD m PAGE 0) r h)))

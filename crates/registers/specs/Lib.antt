@@ -1,3 +1,3 @@
 pub mod Registers
 pub mod Inside
-pub mod Calls
+pub mod Access

@@ -7,25 +7,31 @@ use mathlib.Core.List.{List}
 use lib.Dec.{eqb, ltb}
 use lib.ListN.{getD, set}
 use Rattle.control.specs.Control.{withBit, IRQ}
-use Rattle.machine.specs.Words.{PAGE, IRQV, PAR, ACTV, MODE, WST, WRITE, READ, SUMS, wordOf, cut}
+use Rattle.machine.specs.Words.{VOICES, CR, START, O4N1, PAGE, IRQV, PAR, ACTV, MODE, W_ST, WRITE, READ, SUMS, NO_VOICE, voiceWord, cut}
 use Rattle.registers.specs.declared.Register.{Register}
 use Rattle.registers.specs.declared.Register.the-variants.{Word, Sum, Pot, Vector, Nothing}
 
 -- ---- the registers of a page
 
--- pages 0 to 31: words 0 to 10 of voice v, and then ACTV and MODE
+-- pages 0 to 31: words 0 to 10 of voice v, CR to K1RAMP; ACTV; MODE
 unfoldable pub lowPage : ℕ → ℕ → Register
-lowPage v r = cond (ltb r 11) (Word (wordOf v r)) (cond (eqb r 11) (Word ACTV) (Word MODE))
+lowPage v r =
+    cond (ltb r 11) (Word (voiceWord v r))
+    (cond (eqb r 11) (Word ACTV) (Word MODE))
 
--- pages 32 to 63: CR, START, END and ACCUM of voice v and its filter words, and then W_ST, W_END and LR_END
+-- pages 32 to 63: CR; START, END and ACCUM; the six filter words, all of voice v; W_ST, W_END and LR_END
 unfoldable pub highPage : ℕ → ℕ → Register
-highPage v r = cond (eqb r 0) (Word (wordOf v 0)) (cond (ltb r 10) (Word (wordOf v (10 + r))) (Word (WST + (r - 10))))
+highPage v r =
+    cond (eqb r 0) (Word (voiceWord v CR))
+    (cond (ltb r 4) (Word (voiceWord v (START + (r - 1))))
+    (cond (ltb r 10) (Word (voiceWord v (O4N1 + (r - 4))))
+    (Word (W_ST + (r - 10)))))
 
 -- pages 64 to 127: the channel sums, and one that is nothing
 unfoldable pub sumPage : ℕ → Register
 sumPage r = cond (ltb r 12) (Sum (SUMS + r)) Nothing
 
--- registers 13 to 15 are the same on every page
+-- Registers 13 to 15 are asked first, since they are the same on every page; what the pages above say of them is never asked.
 unfoldable pub registerOf : ℕ → ℕ → Register
 registerOf page r =
     cond (eqb r 13) Pot
@@ -53,8 +59,8 @@ stored m Vector x = m
 stored m Nothing x = m
 
 -- byte k of register r is written: it goes into the write latch, and byte 3 then stores the latch and clears it
-unfoldable pub written : List ℕ → ℕ → ℕ → ℕ → List ℕ
-written m r k b =
+unfoldable pub byteWritten : List ℕ → ℕ → ℕ → ℕ → List ℕ
+byteWritten m r k b =
     let latch = withByte k b (getD m WRITE 0) in
     cond (eqb k 3) (set (stored m (registerOf (getD m PAGE 0) r) latch) WRITE 0) (set m WRITE latch)
 
@@ -71,19 +77,19 @@ readAs m Nothing = 0
 -- The vector is read: a voice that it names loses its interrupt flag, and the vector is empty again.
 unfoldable pub acknowledged : List ℕ → List ℕ
 acknowledged m =
-    let cr = wordOf (getD m IRQV 0) 0 in
-    cond (ltb (getD m IRQV 0) 32) (set (set m cr (withBit IRQ 0 (getD m cr 0))) IRQV 128) m
+    let cr = voiceWord (getD m IRQV 0) CR in
+    cond (ltb (getD m IRQV 0) VOICES) (set (set m cr (withBit IRQ 0 (getD m cr 0))) IRQV NO_VOICE) m
 
 -- what reading a register does besides
-unfoldable pub touched : List ℕ → Register → List ℕ
-touched m (Word i) = m
-touched m (Sum i) = m
-touched m Pot = set m PAR 1023
-touched m Vector = acknowledged m
-touched m Nothing = m
+unfoldable pub sideEffect : List ℕ → Register → List ℕ
+sideEffect m (Word i) = m
+sideEffect m (Sum i) = m
+sideEffect m Pot = set m PAR 1023
+sideEffect m Vector = acknowledged m
+sideEffect m Nothing = m
 
 -- byte k of register r is read: byte 0 first puts the register in the read latch
-unfoldable pub opened : List ℕ → ℕ → ℕ → List ℕ
-opened m r k =
+unfoldable pub byteRead : List ℕ → ℕ → ℕ → List ℕ
+byteRead m r k =
     let register = registerOf (getD m PAGE 0) r in
-    cond (eqb k 0) (touched (set m READ (readAs m register)) register) m
+    cond (eqb k 0) (sideEffect (set m READ (readAs m register)) register) m

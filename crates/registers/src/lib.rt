@@ -5,11 +5,11 @@ ghost use mathlib.Core.Path.{_≡_};
 ghost use mathlib.Core.Bool.{true};
 ghost use Prim.Native.Nat.{_<_};
 ghost use lib.ListN.{length, getD, set};
-ghost use Rattle.machine.specs.Words.{WORDS, READ, valid};
-ghost use Rattle.registers.specs.Registers.{registerOf, byteOf, withByte, stored, written, readAs, touched, opened};
+ghost use Rattle.machine.specs.Words.{RECORD_WORDS, READ, valid};
+ghost use Rattle.registers.specs.Registers.{registerOf, byteOf, withByte, stored, byteWritten, readAs, sideEffect, byteRead};
 ghost use Rattle.registers.specs.Registers.{acknowledged};
 ghost use Rattle.registers.specs.Inside.{Inside};
-ghost use Rattle.registers.specs.Calls.{byteAnswer, Writes, Reads, SetsPot};
+ghost use Rattle.registers.specs.Access.{byteAnswer, Writes, Reads, SetsPot};
 use answer::Answer;
 
 // What a page and a register number name.
@@ -88,9 +88,9 @@ fn refusal(m: &[u32], address: u32) -> Answer
 
 // Byte k of register r is written.
 fn write_byte(m: &mut [u32], r: u32, k: u32, b: u8)
-    requires { ⌜ length (now m) ≡ WORDS ⌝ }
+    requires { ⌜ length (now m) ≡ RECORD_WORDS ⌝ }
     requires { ⌜ (r < 16) × (k < 4) ⌝ }
-    ensures { λ _. ⌜ now (m .exit) ≡ written (now (m .entry)) r k b ⌝ }
+    ensures { λ _. ⌜ now (m .exit) ≡ byteWritten (now (m .entry)) r k b ⌝ }
 {
     let old = m[machine::WRITE];
     let latch = with_byte(k, b, old);
@@ -108,12 +108,12 @@ fn write_byte(m: &mut [u32], r: u32, k: u32, b: u8)
 fn read_byte(m: &mut [u32], r: u32, k: u32) -> u8
     requires { ⌜ valid (now m) ≡ true ⌝ }
     requires { ⌜ (r < 16) × (k < 4) ⌝ }
-    ensures { λ b. ⌜ (now (m .exit) ≡ opened (now (m .entry)) r k) × (b ≡ byteOf k (getD (now (m .exit)) READ 0)) ⌝ }
+    ensures { λ b. ⌜ (now (m .exit) ≡ byteRead (now (m .entry)) r k) × (b ≡ byteOf k (getD (now (m .exit)) READ 0)) ⌝ }
 {
     if k == 0 {
         let page = m[machine::PAGE];
         let register = decode(page, r);
-        open(m, register);
+        load(m, register);
     }
     let latch = m[machine::READ];
     byte(k, latch)
@@ -130,13 +130,20 @@ fn decode(page: u32, r: u32) -> Register
         15 => Register::Word(machine::PAGE),
         _ => match page {
             0..=31 => match r {
-                0..=10 => Register::Word((20 * page + r) as usize),
+                0..=10 => Register::Word(machine::VOICE_WORDS * page as usize + r as usize),
                 11 => Register::Word(machine::ACTV),
                 _ => Register::Word(machine::MODE),
             },
             32..=63 => match r {
-                0 => Register::Word((20 * (page - 32)) as usize),
-                1..=9 => Register::Word((20 * (page - 32) + (10 + r)) as usize),
+                0 => Register::Word(machine::VOICE_WORDS * (page - 32) as usize + machine::CR),
+                1..=3 => Register::Word(
+                    machine::VOICE_WORDS * (page - 32) as usize
+                        + (machine::START + (r - 1) as usize),
+                ),
+                4..=9 => Register::Word(
+                    machine::VOICE_WORDS * (page - 32) as usize
+                        + (machine::O4N1 + (r - 4) as usize),
+                ),
                 _ => Register::Word(machine::W_ST + (r - 10) as usize),
             },
             _ => match r {
@@ -149,7 +156,7 @@ fn decode(page: u32, r: u32) -> Register
 
 // x, cut to the bits kept, in a register that can be written. The others take nothing: their writes end in the latch.
 fn store(m: &mut [u32], register: Register, x: u32)
-    requires { ⌜ (length (now m) ≡ WORDS) × Inside register ⌝ }
+    requires { ⌜ (length (now m) ≡ RECORD_WORDS) × Inside register ⌝ }
     ensures { λ _. ⌜ now (m .exit) ≡ stored (now (m .entry)) register x ⌝ }
 {
     match register {
@@ -166,10 +173,10 @@ fn store(m: &mut [u32], register: Register, x: u32)
 }
 
 // Byte 0 of a register is read: the register goes to the read latch. The pot result reads as all ones until the next one is there.
-fn open(m: &mut [u32], register: Register)
+fn load(m: &mut [u32], register: Register)
     requires { ⌜ valid (now m) ≡ true ⌝ }
     requires { ⌜ Inside register ⌝ }
-    ensures { λ _. ⌜ now (m .exit) ≡ touched (set (now (m .entry)) READ (readAs (now (m .entry)) register)) register ⌝ }
+    ensures { λ _. ⌜ now (m .exit) ≡ sideEffect (set (now (m .entry)) READ (readAs (now (m .entry)) register)) register ⌝ }
 {
     match register {
         Register::Word(i) => {
@@ -199,10 +206,10 @@ fn acknowledge(m: &mut [u32])
 {
     let voice = m[machine::IRQV];
     if voice < 32 {
-        let i = (20 * voice) as usize;
+        let i = machine::VOICE_WORDS * voice as usize + machine::CR;
         let cr = m[i];
         m[i] = control::with_bit(control::IRQ, 0, cr);
-        m[machine::IRQV] = 128;
+        m[machine::IRQV] = machine::NO_VOICE;
     }
 }
 

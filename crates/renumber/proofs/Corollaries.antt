@@ -17,16 +17,16 @@ use lib.Seq.{getD-set-same, getD-set-other}
 use borrow.Author.Tests.{eq-eqb, ne-eqb, lt-ltb, le-ltb}
 use Rattle.numbers.proofs.Tests.{cases}
 use Rattle.answer.specs.declared.Answer.the-variants.{Done}
-use Rattle.machine.specs.Words.{PAGE, WRITE, ACTV, wordOf, aboveBits, bitsOf, cut, valid}
+use Rattle.machine.specs.Words.{START, O4N1, PAGE, WRITE, ACTV, voiceWord, commonBits, bitsOf, cut, valid}
 use Rattle.machine.proofs.Valid.{Sound, sound}
-use Rattle.machine.proofs.Answers.{check-valid}
+use Rattle.sample.specs.Sample.{MOST_MEMORY_WORDS}
 use Rattle.registers.specs.Registers.{registerOf, lowPage, highPage, byteOf, withByte}
 use Rattle.registers.specs.declared.Register.the-variants.{Word}
-use Rattle.frame.proofs.Calls.{not-refused-frame}
+use Rattle.frame.proofs.Answered.{not-refused-frame}
 use Rattle.calls.specs.Calls.{Call, Write, Frame, answerTo, after, run, outputs}
 use Rattle.renumber.specs.Demand.{Renumbering, Match, Put, ofVoice, Phase, idle, Between, nothing, reading, potting, refused, paging, first, next, last}
 use Rattle.renumber.specs.Demand.{Log, End, Then, Trace, stop, go-on, SameWrites, Alike}
-use Rattle.renumber.specs.Score.{pageOf, placeOf, writes, allWrites, Step, callsOf, putOn, stepOn, Fits, AllFit, Playable}
+use Rattle.renumber.specs.Score.{pageFor, registerFor, writes, allWrites, Step, callsOf, putOn, stepOn, Fits, AllFit, Playable}
 use Rattle.renumber.proofs.Same.{same-equal}
 use Rattle.renumber.proofs.Stretch.{between, last-written, page-named}
 use Rattle.renumber.proofs.Frame.{frame-sound}
@@ -63,21 +63,21 @@ four-bytes x h =
     let c : byteOf 3 x ≡ x % 256 = omega arith in
     rw (a, b, c, one-byte (x / 256 / 256), one-byte (x / 256)) (one-byte x)
 
-page-lt : (v j : ℕ) → v < 32 → pageOf v j < 64
-unfolding pageOf
-page-lt v j h = cases j 11 (cond (ltb j 11) v (32 + v) < 64) (λ l. rw (lt-ltb j 11 l) (omega arith)) (λ l. rw (le-ltb j 11 l) (omega arith))
+page-lt : (v j : ℕ) → v < 32 → pageFor v j < 64
+unfolding pageFor
+page-lt v j h = cases j START (cond (ltb j START) v (32 + v) < 64) (λ l. rw (lt-ltb j START l) (omega arith)) (λ l. rw (le-ltb j START l) (omega arith))
 
-place-lt : (j : ℕ) → j < 20 → placeOf j < 16
-unfolding placeOf
-place-lt j h = cases j 11 (cond (ltb j 11) j (j - 10) < 16) (λ l. rw (lt-ltb j 11 l) (omega arith)) (λ l. rw (le-ltb j 11 l) (omega arith))
+register-lt : (j : ℕ) → j < 20 → registerFor j < 16
+unfolding registerFor
+register-lt j h = cases j START (cond (ltb j START) j (1 + (j - START)) < 16) (λ l. rw (lt-ltb j START l) (omega arith)) (λ l. rw (le-ltb j START l) (omega arith))
 
--- that page and register name that word
-named : (v j : ℕ) → v < 32 → j < 20 → registerOf (pageOf v j) (placeOf j) ≡ Word (wordOf v j)
-unfolding pageOf placeOf registerOf lowPage highPage
-named v j h k = cases j 11 _
+-- that page and register name that word: one up to K1RAMP; START, END or ACCUM; a filter word
+named : (v j : ℕ) → v < 32 → j < 20 → registerOf (pageFor v j) (registerFor j) ≡ Word (voiceWord v j)
+unfolding pageFor registerFor registerOf lowPage highPage
+named v j h k = cases j START _
     (λ l.
     rw (
-      lt-ltb j 11 l,
+      lt-ltb j START l,
       ne-eqb j 13 (λ e. omega arith),
       ne-eqb j 14 (λ e. omega arith),
       ne-eqb j 15 (λ e. omega arith),
@@ -85,24 +85,25 @@ named v j h k = cases j 11 _
       lt-ltb j 11 l,
     ))
     (λ l.
-    let e : 10 + (j - 10) ≡ j = omega arith in
+    let r = 1 + (j - START) in
     let f : 32 + v - 32 ≡ v = omega arith in
     rw (
-      le-ltb j 11 l,
-      ne-eqb (j - 10) 13 (λ e. omega arith),
-      ne-eqb (j - 10) 14 (λ e. omega arith),
-      ne-eqb (j - 10) 15 (λ e. omega arith),
+      le-ltb j START l,
+      ne-eqb r 13 (λ e. omega arith),
+      ne-eqb r 14 (λ e. omega arith),
+      ne-eqb r 15 (λ e. omega arith),
       le-ltb (32 + v) 32 (omega arith),
       lt-ltb (32 + v) 64 (omega arith),
-      ne-eqb (j - 10) 0 (λ e. omega arith),
-      lt-ltb (j - 10) 10 (omega arith),
-      e,
+      ne-eqb r 0 (λ e. omega arith),
       f,
-    ))
+    )
+    (cases j O4N1 _
+    (λ a. let e : START + (r - 1) ≡ j = omega arith in rw (lt-ltb r 4 (omega arith), e))
+    (λ a. let e : O4N1 + (r - 4) ≡ j = omega arith in rw (le-ltb r 4 (omega arith), lt-ltb r 10 (omega arith), e))))
 
 -- PAGE after its lowest byte was written
 page-after : {m : List ℕ} (b : ℕ) → Sound m → b < 128 → getD (after m (Write (4 * 15 + 3) b)) PAGE 0 ≡ b
-unfolding cut bitsOf aboveBits withByte
+unfolding cut bitsOf commonBits withByte
 page-after {m} b s h =
     let x = withByte 3 b (getD m WRITE 0) in
     let z = cut PAGE x in
@@ -118,12 +119,12 @@ one-write {m} p s f =
     let hv = f .voice in
     let hj = f .word in
     let hp = page-lt v j hv in
-    let e : registerOf (getD (after m (Write (4 * 15 + 3) (pageOf v j))) PAGE 0) (placeOf j) ≡ Word (wordOf v j) = rw (page-after (pageOf v j) s (omega arith)) (named v j hv hj) in
+    let e : registerOf (getD (after m (Write (4 * 15 + 3) (pageFor v j))) PAGE 0) (registerFor j) ≡ Word (voiceWord v j) = rw (page-after (pageFor v j) s (omega arith)) (named v j hv hj) in
     let q : _≡_ {A = Put} (record { voice = v; word = j; number = 256 * (256 * (256 * byteOf 0 x + byteOf 1 x) + byteOf 2 x) + byteOf 3 x }) p =
     λ i. record { voice = v; word = j; number = four-bytes x (f .number) i } in
     subst (λ (y : Put). Between m idle (writes p) (y ∷ [])) q
-    (paging 3 (pageOf v j) (lit< tt) (omega arith)
-    (first (placeOf j) v j (byteOf 0 x) (place-lt j hj) hv hj (byte-lt 0 x) e
+    (paging 3 (pageFor v j) (lit< tt) (omega arith)
+    (first (registerFor j) v j (byteOf 0 x) (register-lt j hj) hv hj (byte-lt 0 x) e
     (next {k = 1} (byteOf 1 x) (lit< tt) (byte-lt 1 x)
     (next {k = 2} (byteOf 2 x) (lit< tt) (byte-lt 2 x)
     (last (byteOf 3 x) (byte-lt 3 x) nothing)))))
@@ -139,9 +140,9 @@ unfoldable pub logOf : List Step → Log
 logOf [] = End []
 logOf (f ∷ fs) = Then (f .puts) (f .memory) (logOf fs)
 
-pub frame-done : {m : List ℕ} (memory : List ℕ) (out : List ℤ) → Sound m → length memory ≤ 8388608 → length out ≡ 12 → answerTo m (Frame memory out) ≡ Done
+pub frame-done : {m : List ℕ} (memory : List ℕ) (out : List ℤ) → Sound m → length memory ≤ MOST_MEMORY_WORDS → length out ≡ 12 → answerTo m (Frame memory out) ≡ Done
 unfolding answerTo
-frame-done {m} memory out s h k = not-refused-frame m memory out (check-valid m s) h k
+frame-done {m} memory out s h k = not-refused-frame m memory out s h k
 
 pub score-trace : {m : List ℕ} (fs : List Step) → Sound m → Playable fs → Trace m (callsOf fs) (logOf fs)
 unfolding callsOf logOf
@@ -209,7 +210,7 @@ unfolding itself
 matches-itself m = record { voices = λ v h. same-equal refl; active = refl; slow = refl; sums = λ c h. refl }
 
 -- Two voices may be written in either order.
-pub in-either-order : (m : List ℕ) → valid m ≡ true → (p q : Put) → p .voice ≢ q .voice → Fits p → Fits q → (memory : List ℕ) → length memory ≤ 8388608
+pub in-either-order : (m : List ℕ) → valid m ≡ true → (p q : Put) → p .voice ≢ q .voice → Fits p → Fits q → (memory : List ℕ) → length memory ≤ MOST_MEMORY_WORDS
     → (fs : List Step) → Playable fs
     → outputs m (callsOf (record { puts = p ∷ q ∷ []; memory = memory } ∷ fs)) ≡ outputs m (callsOf (record { puts = q ∷ p ∷ []; memory = memory } ∷ fs))
 unfolding logOf itself

@@ -15,9 +15,9 @@ use lib.Seq.{getD-set-other}
 use borrow.Author.Tests.{ne-eqb, lt-ltb}
 use Rattle.control.specs.Control.{bitOf, withBit, IRQ}
 use Rattle.control.proofs.Agree.{put-apart}
-use Rattle.machine.specs.Words.{PAGE, IRQV, ACTV, SLOW, SUMS, voiceBits, aboveBits, bitsOf, cut, cutTo, isVector, valid, WORDS}
+use Rattle.machine.specs.Words.{PAGE, IRQV, ACTV, SLOW, SUMS, voiceBits, commonBits, bitsOf, cut, cutTo, isVector, valid, RECORD_WORDS}
 use Rattle.machine.specs.Voices.{voiceAt, putVoice}
-use Rattle.machine.specs.Calls.{resetWord, wordsFrom, fresh}
+use Rattle.machine.specs.Reset.{resetWord, wordsFrom, fresh}
 use Rattle.machine.proofs.Parts.{voice-same, voice-set-above, put-length, put-same, put-other, put-out}
 use Rattle.machine.proofs.Fresh.{fresh-length, fresh-at}
 use Rattle.machine.proofs.Valid.{sound}
@@ -48,11 +48,11 @@ unfoldable pub other : List ℕ
 other = machine 5 768 90 128
 
 one-valid : valid one ≡ true
-unfolding one machine note putVoice fresh wordsFrom resetWord valid cutTo cut bitsOf voiceBits aboveBits isVector
+unfolding one machine note putVoice fresh wordsFrom resetWord valid cutTo cut bitsOf commonBits isVector
 one-valid = refl
 
 other-valid : valid other ≡ true
-unfolding other machine note putVoice fresh wordsFrom resetWord valid cutTo cut bitsOf voiceBits aboveBits isVector
+unfolding other machine note putVoice fresh wordsFrom resetWord valid cutTo cut bitsOf commonBits isVector
 other-valid = refl
 
 -- ---- voices 3 and 5 exchanged
@@ -91,7 +91,7 @@ module _ (v CR page vector : ℕ) (h : v < 32) where
   unfolding note
   note-long = refl
 
-  size : length (putVoice fresh v (note CR)) ≡ WORDS
+  size : length (putVoice fresh v (note CR)) ≡ RECORD_WORDS
   size = put-length fresh v (note CR) note-long note-fits ∙ fresh-length
 
   -- the words above are at none of the voices
@@ -119,7 +119,7 @@ rest-word : (v j : ℕ) → v < 32 → j < 20 → getD fresh (20 * v + j) 0 ≡ 
 unfolding resetWord
 rest-word v j h k =
     let e : (20 * v + j) % 20 ≡ j = omega arith in
-    fresh-at (20 * v + j) (omega arith) ∙ rw (lt-ltb (20 * v + j) 640 (omega arith), e)
+    fresh-at (20 * v + j) (omega arith) ∙ rw (lt-ltb (20 * v + j) PAGE (omega arith), e)
 
 rest : (u v : ℕ) → u < 32 → v < 32 → voiceAt fresh u ≡ voiceAt fresh v
 rest u v h k = voice-same fresh fresh u v (omega (arith, fresh-length)) (omega (arith, fresh-length)) (λ j l. rest-word u j h l ∙ sym (rest-word v j k l))

@@ -11,19 +11,20 @@ use lib.IntN.{ℤ, pos, natAbs}
 use lib.ListN.{getD, set, replicate}
 use Rattle.numbers.specs.Numbers.{floorDiv, floorMod, signed, word, held}
 use Rattle.control.specs.Control.{bitOf, flagOf, withBit, runs, IRQ}
-use Rattle.sample.specs.Sample.{firstAt, secondAt, sampleOf, fetched, fraction, between}
+use Rattle.sample.specs.Sample.{firstAt, secondAt, sampleOf, fetched, fraction, interpolated}
 use Rattle.filter.specs.Filter.{lowPass, highPass, coefficient, pole3, pole4, filtered}
 use Rattle.volume.specs.Volume.{mantissa, exponent, volumeOf, panned}
 use Rattle.channel.specs.Channel.{mixed, putOut}
-use Rattle.address.specs.Address.{raised, event, forward, reverse, stepped}
-use Rattle.machine.specs.Words.{ACTV, SUMS, voiceBits, aboveBits, bitsOf, cut, cutTo, isVector, valid, wordOf}
+use Rattle.address.specs.Address.{raised, forwardEvent, reverseEvent, forward, reverse, stepped}
+use Rattle.machine.specs.Words.{CR, ACTV, SUMS, voiceBits, commonBits, bitsOf, cut, cutTo, isVector, valid, voiceWord}
 use Rattle.machine.specs.Voices.{voiceAt, putVoice}
-use Rattle.machine.specs.Calls.{sized, checked, resetWord, wordsFrom, fresh}
-use Rattle.registers.specs.Registers.{registerOf, lowPage, highPage, sumPage, withByte, stored, written, readAs, acknowledged, touched, opened}
-use Rattle.registers.specs.Calls.{byteAnswer, writeRecord, readRecord}
-use Rattle.voice.specs.Turn.{levels, withOutputs, moved, sampled, stoppedTurn, runningTurn, turnOf, outputs as lastOutputs}
+use Rattle.machine.specs.Check.{checked}
+use Rattle.machine.specs.Reset.{resetAnswer, resetWord, wordsFrom, fresh}
+use Rattle.registers.specs.Registers.{registerOf, lowPage, highPage, sumPage, withByte, stored, byteWritten, readAs, acknowledged, sideEffect, byteRead}
+use Rattle.registers.specs.Access.{byteAnswer, writeRecord, readRecord}
+use Rattle.voice.specs.Turn.{rampedLevels, withOutputs, moved, sampled, stoppedTurn, runningTurn, turnOf, lastOutputs}
 use Rattle.voice.specs.Voice.{wordsOf}
-use Rattle.frame.specs.Frame.{summed, added, signalled, turned, turnAt, turns, heard, silenced, closed, played, frameAnswer, frameRecord, frameOutput}
+use Rattle.frame.specs.Frame.{addedTo, added, signalled, turnAt, turns, heard, silenced, closed, played, frameAnswer, frameRecord, frameOutput}
 use Rattle.calls.specs.Calls.{Call, Write, Read, Frame, after, outputFrom, run, outputs}
 use Rattle.renumber.proofs.Example.{note, machine, one, other}
 
@@ -46,7 +47,7 @@ pub computed :
     × (loudness (outputs (set one ACTV 3) (frame 1000 ∷ [])) ≡ 15952)
     × (loudness (outputs (set other ACTV 3) (frame 1000 ∷ [])) ≡ 0)
     × (loudness (outputs (set other SUMS 1) (frame 1000 ∷ [])) ≡ 15953)
-unfolding frame loudness silence one other machine note putVoice voiceAt fresh wordsFrom resetWord valid cutTo cut bitsOf voiceBits aboveBits isVector sized checked outputs outputFrom after byteAnswer writeRecord written stored withByte registerOf lowPage highPage sumPage frameAnswer frameRecord frameOutput played turns turnAt turned added summed signalled mixed putOut heard silenced closed wordsOf turnOf runningTurn stoppedTurn withOutputs moved levels lastOutputs sampled fetched fraction between sampleOf firstAt secondAt floorDiv floorMod signed word held filtered pole3 pole4 lowPass highPass coefficient panned volumeOf mantissa exponent stepped forward reverse event raised runs flagOf bitOf withBit
+unfolding frame loudness silence one other machine note putVoice voiceAt fresh wordsFrom resetWord valid cutTo cut bitsOf commonBits isVector resetAnswer checked outputs outputFrom after byteAnswer writeRecord byteWritten stored withByte registerOf lowPage highPage sumPage frameAnswer frameRecord frameOutput played turns turnAt added addedTo signalled mixed putOut heard silenced closed wordsOf turnOf runningTurn stoppedTurn withOutputs moved rampedLevels lastOutputs sampled fetched fraction interpolated sampleOf firstAt secondAt floorDiv floorMod signed word held filtered pole3 pole4 lowPass highPass coefficient panned volumeOf mantissa exponent stepped forward reverse forwardEvent reverseEvent raised runs flagOf bitOf withBit
 computed = (refl, refl, refl, refl, refl, refl, refl)
 
 -- two runs that are not equally loud do not put out the same
@@ -74,6 +75,6 @@ pub sums-needed : outputs one (frame 1000 ∷ []) ≢ outputs (set other SUMS 1)
 sums-needed = differ (outputs one (frame 1000 ∷ [])) (outputs (set other SUMS 1) (frame 1000 ∷ [])) (λ e. omega (arith, computed .0, computed .6))
 
 -- Interrupt flags are excepted: a read of the vector on one machine alone clears a flag there.
-pub flags-needed : bitOf IRQ (getD (run one []) (wordOf 3 0) 0) ≢ bitOf IRQ (getD (run one (Read 56 ∷ [])) (wordOf 3 0) 0)
-unfolding one machine note putVoice fresh wordsFrom resetWord valid cutTo cut bitsOf voiceBits aboveBits isVector sized checked run after byteAnswer readRecord opened touched acknowledged readAs registerOf bitOf withBit
+pub flags-needed : bitOf IRQ (getD (run one []) (voiceWord 3 CR) 0) ≢ bitOf IRQ (getD (run one (Read 56 ∷ [])) (voiceWord 3 CR) 0)
+unfolding one machine note putVoice fresh wordsFrom resetWord valid cutTo cut bitsOf commonBits isVector resetAnswer checked run after byteAnswer readRecord byteRead sideEffect acknowledged readAs registerOf bitOf withBit
 flags-needed e = let q : _≡_ {A = ℕ} 1 0 = e in omega arith

@@ -17,14 +17,13 @@ use borrow.Author.Tests.{eqb-true, eq-eqb, ne-eqb, le-ltb}
 use Rattle.numbers.proofs.Tests.{either, split, cases}
 use Rattle.answer.specs.Answer.{isDone}
 use Rattle.answer.specs.declared.Answer.the-variants.{Address}
-use Rattle.machine.specs.Words.{PAGE, IRQV, PAR, ACTV, SLOW, WRITE, READ, SUMS, wordOf, cut, isVector, WORDS}
+use Rattle.machine.specs.Words.{CR, PAGE, IRQV, PAR, ACTV, SLOW, WRITE, READ, SUMS, voiceWord, cut, isVector, RECORD_WORDS}
 use Rattle.machine.specs.Voices.{voiceAt}
 use Rattle.machine.proofs.Parts.{voice-word, voice-length, voice-same, voice-set, voice-set-out}
 use Rattle.machine.proofs.Valid.{Sound, sound, is-valid, bits-voice, cut-again, sound-set}
-use Rattle.machine.proofs.Answers.{check-valid}
-use Rattle.registers.specs.Registers.{registerOf, withByte, stored, written}
+use Rattle.registers.specs.Registers.{registerOf, withByte, stored, byteWritten}
 use Rattle.registers.specs.declared.Register.the-variants.{Word}
-use Rattle.registers.specs.Calls.{byteAnswer, writeRecord, readRecord, potAnswer, potRecord}
+use Rattle.registers.specs.Access.{byteAnswer, writeRecord, readRecord, potAnswer, potRecord}
 use Rattle.registers.proofs.Laws.{asked-far}
 use Rattle.registers.proofs.Valid.{word-lt, write-latch, byte-lt}
 use Rattle.registers.proofs.Whole.{write-byte}
@@ -114,17 +113,17 @@ latch-moved {m} x s h = quiet WRITE (lit≤ tt, lit< tt, λ e. omega arith, λ e
 -- ---- a write of a voice
 
 -- word j of any voice keeps the same bits
-cut-voice : (v j x : ℕ) → v < 32 → j < 20 → cut (wordOf v j) x ≡ cut j x
+cut-voice : (v j x : ℕ) → v < 32 → j < 20 → cut (voiceWord v j) x ≡ cut j x
 unfolding cut
 cut-voice v j x h k =
     let e : 20 * 0 + j ≡ j = omega arith in
     ap (bitAnd x) (bits-voice v j h k ∙ sym (rw e at (bits-voice 0 j (lit< tt) k)))
 
-put-moved : {m : List ℕ} (v j x : ℕ) → Sound m → v < 32 → j < 20 → Moved m (record { voice = v; word = j; number = x } ∷ []) (set m (wordOf v j) (cut (wordOf v j) x))
+put-moved : {m : List ℕ} (v j x : ℕ) → Sound m → v < 32 → j < 20 → Moved m (record { voice = v; word = j; number = x } ∷ []) (set m (voiceWord v j) (cut (voiceWord v j) x))
 unfolding puts
 put-moved {m} v j x s hv hj =
-    let i = wordOf v j in
-    let y = cut (wordOf v j) x in
+    let i = voiceWord v j in
+    let y = cut (voiceWord v j) x in
     record {
       sound = sound-set i y s (omega arith) (cut-again i x) (λ e. absurd (let z : ⊥ = omega arith in z));
       voices = λ u hu. at u hu (ℕ-discrete u v);
@@ -133,9 +132,9 @@ put-moved {m} v j x s hv hj =
       sums = λ c h. getD-set-other m i (SUMS + c) y 0 (λ e. omega arith);
     }
   where
-    at : (u : ℕ) → u < 32 → Dec (u ≡ v) → SameVoice (voiceAt (set m (wordOf v j) (cut (wordOf v j) x)) u) (puts (ofVoice u (record { voice = v; word = j; number = x } ∷ [])) (voiceAt m u))
-    at u hu (yes e) = rw (eq-eqb u v e, e) (same-equal (voice-set m v j (cut (wordOf v j) x) hj ∙ ap (set (voiceAt m v) j) (cut-voice v j x hv hj)))
-    at u hu (no e) = rw (ne-eqb u v e) (same-equal (voice-set-out m u (wordOf v j) (cut (wordOf v j) x) (omega (arith, s .size)) (λ k l q. e (omega arith))))
+    at : (u : ℕ) → u < 32 → Dec (u ≡ v) → SameVoice (voiceAt (set m (voiceWord v j) (cut (voiceWord v j) x)) u) (puts (ofVoice u (record { voice = v; word = j; number = x } ∷ [])) (voiceAt m u))
+    at u hu (yes e) = rw (eq-eqb u v e, e) (same-equal (voice-set m v j (cut (voiceWord v j) x) hj ∙ ap (set (voiceAt m v) j) (cut-voice v j x hv hj)))
+    at u hu (no e) = rw (ne-eqb u v e) (same-equal (voice-set-out m u (voiceWord v j) (cut (voiceWord v j) x) (omega (arith, s .size)) (λ k l q. e (omega arith))))
 
 -- ---- reads, pot results and refused writes: they move nothing, and leave PAGE and the write latch
 
@@ -145,7 +144,7 @@ record Quiet (m m′ : List ℕ) : Type 0 where
   latch : getD m′ WRITE 0 ≡ getD m WRITE 0
 
 -- the control register that the vector names is none of the words above
-vector-below : {m : List ℕ} (i : ℕ) → Sound m → PAGE ≤ i → i < WORDS → i ≢ wordOf (getD m IRQV 0) 0
+vector-below : {m : List ℕ} (i : ℕ) → Sound m → PAGE ≤ i → i < RECORD_WORDS → i ≢ voiceWord (getD m IRQV 0) CR
 unfolding isVector
 vector-below {m} i s h k e = cases (getD m IRQV 0) 32 ⊥
     (λ l. omega arith)
@@ -161,7 +160,7 @@ read-quiet {m} a s = record {
           rw (voice-word (readRecord m a) v 0 (lit< tt), voice-word m v 0 (lit< tt)) (read-flag m a v b h d);
       others = λ j l k.
           voice-word (readRecord m a) v j k
-          ∙ read-keeps m a (wordOf v j) (λ e. omega arith) (λ e. omega arith) (λ e. omega arith) (λ e. omega arith)
+          ∙ read-keeps m a (voiceWord v j) (λ e. omega arith) (λ e. omega arith) (λ e. omega arith) (λ e. omega arith)
           ∙ sym (voice-word m v j k);
     };
     active = above ACTV (λ e. omega arith) (λ e. omega arith) (λ e. omega arith) (lit≤ tt) (lit< tt);
@@ -172,7 +171,7 @@ read-quiet {m} a s = record {
   latch = above WRITE (λ e. omega arith) (λ e. omega arith) (λ e. omega arith) (lit≤ tt) (lit< tt);
 }
   where
-    above : (i : ℕ) → i ≢ READ → i ≢ PAR → i ≢ IRQV → PAGE ≤ i → i < WORDS → getD (readRecord m a) i 0 ≡ getD m i 0
+    above : (i : ℕ) → i ≢ READ → i ≢ PAR → i ≢ IRQV → PAGE ≤ i → i < RECORD_WORDS → getD (readRecord m a) i 0 ≡ getD m i 0
     above i l p q h k = read-keeps m a i l p q (vector-below i s h k)
 
 pot-keeps : (m : List ℕ) (p : ℕ) → AllBut PAR m (potRecord m p)
@@ -196,7 +195,7 @@ no-move s = record { sound = s; voices = λ v h. same-equal refl; active = refl;
 refused-quiet : {m : List ℕ} (a b : ℕ) → Sound m → 63 < a → Quiet m (after m (Write a b))
 unfolding after byteAnswer
 refused-quiet {m} a b s h =
-    let e : writeRecord m a b ≡ m = write-refused m a b (rw (asked-far m 63 a Address (check-valid m s) h)) in
+    let e : writeRecord m a b ≡ m = write-refused m a b (rw (asked-far m 63 a Address s h)) in
     rw e (record { moved = no-move s; page = refl; latch = refl })
 
 -- ---- the write latch
@@ -225,7 +224,7 @@ latch-lt {m} s = word-lt m s WRITE (lit< tt)
 
 -- bytes 0 to 2 of a register change the latch alone
 byte-written : {m : List ℕ} (r k b : ℕ) → Sound m → r < 16 → k < 3 → after m (Write (4 * r + k) b) ≡ set m WRITE (withByte k b (getD m WRITE 0))
-unfolding after written
+unfolding after byteWritten
 byte-written {m} r k b s hr hk = write-byte m r k b s hr (omega arith) ∙ rw (ne-eqb k 3 (λ e. omega arith))
 
 byte-moved : {m : List ℕ} (r k b : ℕ) → Sound m → r < 16 → k < 3 → b < 256 → Moved m [] (after m (Write (4 * r + k) b))
@@ -235,7 +234,7 @@ byte-moved {m} r k b s hr hk hb =
 -- byte 3 stores the latch, and clears it
 pub last-written : {m : List ℕ} (r b i : ℕ) → Sound m → r < 16 → registerOf (getD m PAGE 0) r ≡ Word i
     → after m (Write (4 * r + 3) b) ≡ set (set m i (cut i (withByte 3 b (getD m WRITE 0)))) WRITE 0
-unfolding after written stored
+unfolding after byteWritten stored
 last-written {m} r b i s hr e = write-byte m r 3 b s hr (lit< tt) ∙ rw e
 
 -- any byte of PAGE
@@ -259,7 +258,7 @@ record Begun (m : List ℕ) (r v j k x : ℕ) : Type 0 where
   hr : r < 16
   hv : v < 32
   hj : j < 20
-  named : registerOf (getD m PAGE 0) r ≡ Word (wordOf v j)
+  named : registerOf (getD m PAGE 0) r ≡ Word (voiceWord v j)
   top : topOf k (getD m WRITE 0) ≡ x
 
 abbrev In : List ℕ → Phase → Type 0
@@ -285,7 +284,7 @@ one-byte-more {m} r v j k x b s i hk hb =
 last-moved : {m : List ℕ} (r v j x b : ℕ) → Sound m → Begun m r v j 3 x → Moved m (record { voice = v; word = j; number = 256 * x + b } ∷ []) (after m (Write (4 * r + 3) b))
 last-moved {m} r v j x b s i =
     let p = put-moved v j (256 * x + b) s (i .hv) (i .hj) in
-    rw (last-written r b (wordOf v j) s (i .hr) (i .named), top-last b (getD m WRITE 0), i .top) (moved-then s p (latch-moved 0 (p .sound) (lit< tt)))
+    rw (last-written r b (voiceWord v j) s (i .hr) (i .named), top-last b (getD m WRITE 0), i .top) (moved-then s p (latch-moved 0 (p .sound) (lit< tt)))
 
 stretch : {m : List ℕ} {φ : Phase} {t : List Call} {ps : List Put} → Sound m → In m φ → Between m φ t ps → Moved m ps (run m t)
 unfolding run

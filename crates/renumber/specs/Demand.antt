@@ -12,7 +12,7 @@ use lib.IntN.{ℤ}
 use lib.ListN.{length, getD}
 use Rattle.answer.specs.declared.Answer.the-variants.{Done}
 use Rattle.control.specs.Control.{bitOf, IRQ}
-use Rattle.machine.specs.Words.{PAGE, ACTV, SLOW, SUMS, wordOf, valid}
+use Rattle.machine.specs.Words.{VOICES, VOICE_WORDS, CR, PAGE, ACTV, SLOW, SUMS, OUTPUT_VALUES, voiceWord, valid}
 use Rattle.machine.specs.Voices.{voiceAt}
 use Rattle.registers.specs.Registers.{registerOf}
 use Rattle.registers.specs.declared.Register.the-variants.{Word}
@@ -29,24 +29,24 @@ OneToOne k s = (v u : ℕ) → v < k → u < k → s v ≡ s u → v ≡ u
 
 -- voice v of the one machine is voice s v of the other; the active voices, 0 to the active count, become active ones
 pub record Renumbering (active : ℕ) (s : ℕ → ℕ) : Type 0 where
-  pub into : Into 32 s
-  pub one-to-one : OneToOne 32 s
+  pub into : Into VOICES s
+  pub one-to-one : OneToOne VOICES s
   pub stays-active : (v : ℕ) → v ≤ active → s v ≤ active
 
 -- ---- machines that match
 
 -- two voices hold the same registers, interrupt flags excepted: of CR every bit but IRQ, and every other word
 pub record SameVoice (w x : List ℕ) : Type 0 where
-  pub control : (b : ℕ) → b ≢ IRQ → bitOf b (getD w 0 0) ≡ bitOf b (getD x 0 0)
-  pub others : (j : ℕ) → 0 < j → j < 20 → getD w j 0 ≡ getD x j 0
+  pub control : (b : ℕ) → b ≢ IRQ → bitOf b (getD w CR 0) ≡ bitOf b (getD x CR 0)
+  pub others : (j : ℕ) → CR < j → j < VOICE_WORDS → getD w j 0 ≡ getD x j 0
 
 -- The voices match under s, and the active counts, the slow-ramp counters and the channel sums are equal. All else may differ: PAGE,
 -- IRQV, PAR, MODE, W_ST, W_END, LR_END and both latches.
 pub record Match (s : ℕ → ℕ) (m n : List ℕ) : Type 0 where
-  pub voices : (v : ℕ) → v < 32 → SameVoice (voiceAt m v) (voiceAt n (s v))
+  pub voices : (v : ℕ) → v < VOICES → SameVoice (voiceAt m v) (voiceAt n (s v))
   pub active : getD m ACTV 0 ≡ getD n ACTV 0
   pub slow : getD m SLOW 0 ≡ getD n SLOW 0
-  pub sums : (c : ℕ) → c < 12 → getD m (SUMS + c) 0 ≡ getD n (SUMS + c) 0
+  pub sums : (c : ℕ) → c < OUTPUT_VALUES → getD m (SUMS + c) 0 ≡ getD n (SUMS + c) 0
 
 -- ---- whole register writes
 
@@ -83,8 +83,8 @@ pub data Between : List ℕ → Phase → List Call → List Put → Type 0 wher
   paging : {m : List ℕ} {t : List Call} {ps : List Put} (k b : ℕ) → k < 4 → b < 256
       → Between (after m (Write (4 * 15 + k) b)) idle t ps → Between m idle (Write (4 * 15 + k) b ∷ t) ps
   -- byte 0 of a register that, as PAGE stands now, names word j of voice v
-  first : {m : List ℕ} {t : List Call} {ps : List Put} (r v j b : ℕ) → r < 16 → v < 32 → j < 20 → b < 256
-      → registerOf (getD m PAGE 0) r ≡ Word (wordOf v j)
+  first : {m : List ℕ} {t : List Call} {ps : List Put} (r v j b : ℕ) → r < 16 → v < VOICES → j < VOICE_WORDS → b < 256
+      → registerOf (getD m PAGE 0) r ≡ Word (voiceWord v j)
       → Between (after m (Write (4 * r + 0) b)) (begun r v j 1 b) t ps → Between m idle (Write (4 * r + 0) b ∷ t) ps
   -- byte 1 or 2 of it
   next : {m : List ℕ} {r v j k x : ℕ} {t : List Call} {ps : List Put} (b : ℕ) → k < 3 → b < 256
@@ -113,7 +113,7 @@ pub data Trace : List ℕ → List Call → Log → Type 0 where
 
 -- each voice gets the same writes in its own order, however they are mixed with those of others
 abbrev pub SameWrites : (ℕ → ℕ) → List Put → List Put → Type 0
-SameWrites s ps qs = (v : ℕ) → v < 32 → ofVoice v ps ≡ ofVoice (s v) qs
+SameWrites s ps qs = (v : ℕ) → v < VOICES → ofVoice v ps ≡ ofVoice (s v) qs
 
 -- so before each frame and after the last; there are as many frames, and each gets the same sample memory
 abbrev pub Alike : (ℕ → ℕ) → Log → Log → Type 0
@@ -127,7 +127,7 @@ Alike s (Then ps memory l) (Then qs memory′ k) = SameWrites s ps qs × (memory
 -- a frame gives the same twelve values on both machines
 pub record SameFrame (m n : List ℕ) (c d : Call) : Type 0 where
   pub values : outputFrom m c ≡ outputFrom n d
-  pub twelve : length (outputFrom m c) ≡ 12
+  pub twelve : length (outputFrom m c) ≡ OUTPUT_VALUES
 
 -- every frame does; after each, and after the calls that follow the last, the machines match
 abbrev pub Along : (s : ℕ → ℕ) {m n : List ℕ} {t u : List Call} {l k : Log} → Trace m t l → Trace n u k → Type 0

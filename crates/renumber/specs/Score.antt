@@ -7,25 +7,27 @@ use Prim.Native.Nat.{ℕ, _+_, _-_, _*_, _^_, _<_, _≤_}
 use lib.Dec.{ltb}
 use lib.IntN.{pos}
 use lib.ListN.{length, replicate}
+use Rattle.sample.specs.Sample.{MOST_MEMORY_WORDS}
+use Rattle.machine.specs.Words.{VOICES, VOICE_WORDS, START}
 use Rattle.registers.specs.Registers.{byteOf}
 use Rattle.calls.specs.Calls.{Call, Write, Frame}
 use Rattle.renumber.specs.Demand.{Put}
 
 -- ---- where word j of voice v is written
 
--- words 0 to 10 are on page v, and the rest on page v + 32, from register 1 on
-unfoldable pub pageOf : ℕ → ℕ → ℕ
-pageOf v j = cond (ltb j 11) v (32 + v)
+-- CR to K1RAMP are on page v, as registers 0 to 10; START and those after it on page 32 + v, from register 1 on
+unfoldable pub pageFor : ℕ → ℕ → ℕ
+pageFor v j = cond (ltb j START) v (32 + v)
 
-unfoldable pub placeOf : ℕ → ℕ
-placeOf j = cond (ltb j 11) j (j - 10)
+unfoldable pub registerFor : ℕ → ℕ
+registerFor j = cond (ltb j START) j (1 + (j - START))
 
 -- ---- the calls of a write: the page by its lowest byte alone, and the four bytes of the register
 
 unfoldable pub writes : Put → List Call
 writes p =
-    let r = placeOf (p .word) in
-    Write (4 * 15 + 3) (pageOf (p .voice) (p .word))
+    let r = registerFor (p .word) in
+    Write (4 * 15 + 3) (pageFor (p .voice) (p .word))
     ∷ Write (4 * r + 0) (byteOf 0 (p .number))
     ∷ Write (4 * r + 1) (byteOf 1 (p .number))
     ∷ Write (4 * r + 2) (byteOf 2 (p .number))
@@ -58,8 +60,8 @@ stepOn s f = record { puts = map (putOn s) (f .puts); memory = f .memory }
 -- ---- what a score may hold: words of the 32 voices, 32 bits for each, and memory that no frame refuses
 
 pub record Fits (p : Put) : Type 0 where
-  pub voice : p .voice < 32
-  pub word : p .word < 20
+  pub voice : p .voice < VOICES
+  pub word : p .word < VOICE_WORDS
   pub number : p .number < 2 ^ 32
 
 abbrev pub AllFit : List Put → Type 0
@@ -68,4 +70,4 @@ AllFit (p ∷ ps) = Fits p × AllFit ps
 
 abbrev pub Playable : List Step → Type 0
 Playable [] = Unit {0}
-Playable (f ∷ fs) = AllFit (f .puts) × (length (f .memory) ≤ 8388608) × Playable fs
+Playable (f ∷ fs) = AllFit (f .puts) × (length (f .memory) ≤ MOST_MEMORY_WORDS) × Playable fs

@@ -13,11 +13,11 @@ use Rattle.numbers.proofs.Difference.{_⊖_, ⊖-eq, ⊖-add, ⊖-sub, ⊖-mul}
 use Rattle.numbers.proofs.Words.{biased, bits-⊖, floor-up}
 use Rattle.codes.specs.Codes.{valueOf}
 use Rattle.control.specs.Control.{flagOf, bankOf, CMPD}
-use Rattle.sample.specs.Sample.{firstAt, secondAt, sampleOf, fetched, between}
+use Rattle.sample.specs.Sample.{firstAt, secondAt, sampleOf, fetched, interpolated}
 use Rattle.sample.specs.Lasts.{lastOf}
 
-pub between-bits : (f : ℕ) (x y : ℤ) → f < 512 → Bits 16 x → Bits 16 y → Bits 18 (between f x y)
-unfolding between
+pub between-bits : (f : ℕ) (x y : ℤ) → f < 512 → Bits 16 x → Bits 16 y → Bits 18 (interpolated f x y)
+unfolding interpolated
 between-bits f x y hf hx hy =
     let a = biased 32768 x (hx .bits) in
     let b = biased 32768 y (hy .bits) in
@@ -33,7 +33,7 @@ between-bits f x y hf hx hy =
     let t = (f * q + (262144 * 128 - f * p)) / 128 in
     let d : (q ⊖ 32768) -ℤ (p ⊖ 32768) ≡ q ⊖ p = ⊖-sub q 32768 p 32768 ∙ ⊖-eq (q + 32768) (32768 + p) q p (omega arith) in
     let g : floorDiv (pos f *ℤ ((q ⊖ 32768) -ℤ (p ⊖ 32768))) 128 ≡ t ⊖ 262144 = ap (λ (z : ℤ). floorDiv (pos f *ℤ z) 128) d ∙ ap (λ (z : ℤ). floorDiv z 128) (⊖-mul f q p) ∙ floor-up (f * q) (f * p) 262144 128 (lit< tt) (omega arith) in
-    subst (Bits 18) (sym ((λ i. between f ((a .2) i) ((b .2) i)) ∙ (λ i. ⊖-mul 4 p 32768 i +ℤ g i) ∙ ⊖-add (4 * p) (4 * 32768) t 262144))
+    subst (Bits 18) (sym ((λ i. interpolated f ((a .2) i) ((b .2) i)) ∙ (λ i. ⊖-mul 4 p 32768 i +ℤ g i) ∙ ⊖-add (4 * p) (4 * 32768) t 262144))
     (bits-⊖ 18 (4 * p + t) (4 * 32768 + 262144) (omega arith) (omega arith))
 
 pub compressed-word : (CR w : ℕ) → flagOf CMPD CR ≡ true → sampleOf CR w ≡ valueOf (w / 256)

@@ -10,6 +10,13 @@ use Rattle.codes.specs.Codes.{valueOf}
 use Rattle.control.specs.Control.{flagOf, bankOf, CMPD}
 use Rattle.sample.specs.declared.Samples.{Samples}
 
+-- how many words a bank has, and how many the memory may have at most: four banks
+abbrev pub BANK_WORDS : ℕ
+BANK_WORDS = 2097152
+
+abbrev pub MOST_MEMORY_WORDS : ℕ
+MOST_MEMORY_WORDS = 4 * BANK_WORDS
+
 -- a word of the lent memory; one beyond it is 0
 abbrev pub wordAt : List ℕ → ℕ → ℕ
 wordAt memory i = getD memory i 0
@@ -17,10 +24,10 @@ wordAt memory i = getD memory i 0
 -- the words of the first and of the second sample: one at ACCUM's whole part, in the voice's bank, and the next, which wraps within
 -- the bank
 unfoldable pub firstAt : ℕ → ℕ → ℕ
-firstAt CR ACCUM = bankOf CR * 2097152 + ACCUM / 2048
+firstAt CR ACCUM = bankOf CR * BANK_WORDS + ACCUM / 2048
 
 unfoldable pub secondAt : ℕ → ℕ → ℕ
-secondAt CR ACCUM = bankOf CR * 2097152 + (ACCUM / 2048 + 1) % 2097152
+secondAt CR ACCUM = bankOf CR * BANK_WORDS + (ACCUM / 2048 + 1) % BANK_WORDS
 
 -- what a word stands for: a sample of 16 bits, or where CMPD is 1 the value of the code in its high byte
 unfoldable pub sampleOf : ℕ → ℕ → ℤ
@@ -37,5 +44,5 @@ unfoldable pub fraction : ℕ → ℕ
 fraction ACCUM = ACCUM % 2048 / 4
 
 -- X = 4 * S1 + F * (S2 - S1) / 128
-unfoldable pub between : ℕ → ℤ → ℤ → ℤ
-between F s₁ s₂ = pos 4 *ℤ s₁ +ℤ floorDiv (pos F *ℤ (s₂ -ℤ s₁)) 128
+unfoldable pub interpolated : ℕ → ℤ → ℤ → ℤ
+interpolated F s₁ s₂ = pos 4 *ℤ s₁ +ℤ floorDiv (pos F *ℤ (s₂ -ℤ s₁)) 128

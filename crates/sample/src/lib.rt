@@ -4,8 +4,13 @@ ghost use Prim.Native.Nat.{_+_, _*_, _<_};
 ghost use lib.ListN.{length};
 ghost use Rattle.numbers.specs.Numbers.{Bits};
 ghost use Rattle.codes.specs.Codes.{Expands};
-ghost use Rattle.sample.specs.Sample.{wordAt, sampleOf, fetched, fraction, between};
+ghost use Rattle.sample.specs.Sample.{wordAt, sampleOf, fetched, fraction, interpolated, BANK_WORDS as Sample·BANK_WORDS};
 ghost use Rattle.sample.specs.Lasts.{lastOf, Lasts};
+
+// How many words a bank has, and how many the memory may have at most: four banks.
+pub const BANK_WORDS: u32 = 2097152;
+
+pub const MOST_MEMORY_WORDS: usize = 8388608;
 
 // The two words of a fetch.
 struct Words {
@@ -30,7 +35,7 @@ pub fn interpolate(
     requires { ⌜ Lasts (length (now memory)) (now lasts) ⌝ }
     requires { ⌜ Expands (now table) ⌝ }
     requires { ⌜ cr < 65536 ⌝ }
-    ensures { λ r. ⌜ (r ≡ between (fraction accum) (fetched (now (memory .entry)) cr accum .first) (fetched (now (memory .entry)) cr accum .second)) × Bits 18 r ⌝ }
+    ensures { λ r. ⌜ (r ≡ interpolated (fraction accum) (fetched (now (memory .entry)) cr accum .first) (fetched (now (memory .entry)) cr accum .second)) × Bits 18 r ⌝ }
 {
     let s = fetch(memory, lasts, table, cr, accum);
     blend(accum % 2048 / 4, s.first, s.second)
@@ -50,7 +55,7 @@ pub fn fetch(memory: &[u16], lasts: &[usize; 4], table: &[i16; 256], cr: u32, ac
         memory,
         lasts[b],
         place(bank, i),
-        place(bank, (i + 1) % 2097152),
+        place(bank, (i + 1) % BANK_WORDS),
     );
     Samples {
         first: sample(table, cr, w.first),
@@ -61,10 +66,10 @@ pub fn fetch(memory: &[u16], lasts: &[usize; 4], table: &[i16; 256], cr: u32, ac
 // The word of the memory that is word i of a bank.
 fn place(bank: u32, i: u32) -> usize
     requires { ⌜ bank < 4 ⌝ }
-    requires { ⌜ i < 2097152 ⌝ }
-    ensures { λ r. ⌜ r ≡ bank * 2097152 + i ⌝ }
+    requires { ⌜ i < Sample·BANK_WORDS ⌝ }
+    ensures { λ r. ⌜ r ≡ bank * Sample·BANK_WORDS + i ⌝ }
 {
-    (bank * 2097152 + i) as usize
+    (bank * BANK_WORDS + i) as usize
 }
 
 // The words at two places. Below the bank's last word the second is the next, and both are lent: one test for all three.
@@ -109,7 +114,7 @@ fn blend(f: u32, s1: i32, s2: i32) -> i32
     requires { ⌜ f < 512 ⌝ }
     requires { ⌜ Bits 16 s1 ⌝ }
     requires { ⌜ Bits 16 s2 ⌝ }
-    ensures { λ r. ⌜ (r ≡ between f s1 s2) × Bits 18 r ⌝ }
+    ensures { λ r. ⌜ (r ≡ interpolated f s1 s2) × Bits 18 r ⌝ }
 {
     4 * s1 + ((4 * f as i32 * (s2 - s1)) >> 9)
 }
@@ -130,7 +135,7 @@ fn last(n: usize, b: usize) -> usize
     requires { ⌜ b < 4 ⌝ }
     ensures { λ r. ⌜ r ≡ lastOf n b ⌝ }
 {
-    let to = 2097152 * (b + 1);
+    let to = BANK_WORDS as usize * (b + 1);
     if n == 0 {
         0
     } else if n < to {

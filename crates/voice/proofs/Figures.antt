@@ -11,11 +11,11 @@ use Rattle.numbers.specs.Numbers.{floorDiv, floorMod, minus, signed, word, held
 use Rattle.codes.specs.Codes.{valueOf, Compressed, bestBelow, codeOf}
 use Rattle.codes.proofs.Samples.{compressed-is}
 use Rattle.control.specs.Control.{STP0, LPE, BLE, IRQE, DIR, bitOf, flagOf, withBit}
-use Rattle.sample.specs.Sample.{between}
+use Rattle.sample.specs.Sample.{interpolated}
 use Rattle.filter.specs.Filter.{lowPass, highPass}
 use Rattle.volume.specs.Volume.{mantissa, exponent, volumeOf}
 use Rattle.channel.specs.Channel.{mixed, putOut}
-use Rattle.address.specs.Address.{raised, event, forward, reverse, stepped}
+use Rattle.address.specs.Address.{raised, forwardEvent, reverseEvent, forward, reverse, stepped}
 use Rattle.ramp.specs.Ramp.{increment, ramped}
 
 -- a channel after n voices have added z to it, from 0 on
@@ -65,8 +65,8 @@ figures =
     ∷ (pos (codeOf (minus 17)), pos 0x1E)
     ∷ (pos (codeOf (pos 256)), pos 0x30)
     -- 3. between two samples, upwards and downwards
-    ∷ (between 511 (pos 100) (pos 101), pos 403)
-    ∷ (between 511 (pos 101) (pos 100), pos 400)
+    ∷ (interpolated 511 (pos 100) (pos 101), pos 403)
+    ∷ (interpolated 511 (pos 101) (pos 100), pos 400)
     -- 4. a low pass comes to rest at 0 from above, and at -1 from below
     ∷ (lowPass 4095 (pos 0) (pos 100), pos 0)
     ∷ (lowPass 4095 (pos 0) (minus 1), minus 1)
@@ -115,7 +115,7 @@ figures =
     ∷ []
 
 pub figures-hold : map (λ (row : ℤ × ℤ). row .0) figures ≡ map (λ (row : ℤ × ℤ). row .1) figures
-unfolding figures summed accumAfter crAfter bitAfter floorDiv floorMod signed word held valueOf bestBelow codeOf bitOf flagOf withBit between lowPass highPass mantissa exponent volumeOf mixed putOut raised event forward reverse stepped increment ramped
+unfolding figures summed accumAfter crAfter bitAfter floorDiv floorMod signed word held valueOf bestBelow codeOf bitOf flagOf withBit interpolated lowPass highPass mantissa exponent volumeOf mixed putOut raised forwardEvent reverseEvent forward reverse stepped increment ramped
 figures-hold = refl
 
 -- Whatever code the promise allows for these samples is the table's.

@@ -9,7 +9,7 @@ use lib.IntN.{ℤ, pos}
 use Rattle.numbers.proofs.Tests.{alongside}
 use Rattle.control.specs.Control.{LP3, LP4, CMPD, IRQ}
 use Rattle.control.proofs.Agree.{AgreeBut, flag-agrees, bank-agrees, runs-agrees}
-use Rattle.sample.specs.Sample.{fetched, fraction, between}
+use Rattle.sample.specs.Sample.{fetched, fraction, interpolated}
 use Rattle.sample.specs.declared.Samples.{Samples}
 use Rattle.sample.proofs.Laws.{fetched-bank}
 use Rattle.filter.specs.Filter.{filtered}
@@ -18,7 +18,7 @@ use Rattle.volume.specs.Volume.{panned}
 use Rattle.address.specs.Address.{stepped}
 use Rattle.address.proofs.Agree.{SamePlace, stepped-agrees}
 use Rattle.voice.specs.Voice.{Voice, Turn}
-use Rattle.voice.specs.Turn.{outputs, levels, withOutputs, moved, sampled, stoppedTurn, runningTurn, turnOf}
+use Rattle.voice.specs.Turn.{lastOutputs, rampedLevels, withOutputs, moved, sampled, stoppedTurn, runningTurn, turnOf}
 
 -- ---- voices that differ in the interrupt flag alone
 
@@ -61,23 +61,23 @@ pub record SameTurn (t u : Turn) : Type 0 where
 module _ (v w : Voice) (h : ButFlag v w) where
   -- ---- what the turn reads
 
-  same-poles : (x : ℤ) → filtered (v .cr) (v .k1) (v .k2) x (outputs v) ≡ filtered (w .cr) (w .k1) (w .k2) x (outputs w)
-  unfolding besideCR outputs
+  same-poles : (x : ℤ) → filtered (v .cr) (v .k1) (v .k2) x (lastOutputs v) ≡ filtered (w .cr) (w .k1) (w .k2) x (lastOutputs w)
+  unfolding besideCR lastOutputs
   same-poles x =
-      filtered-passes (v .cr) (w .cr) (v .k1) (v .k2) x (outputs v)
+      filtered-passes (v .cr) (w .cr) (v .k1) (v .k2) x (lastOutputs v)
       (flag-agrees IRQ (v .cr) (w .cr) (h .cr) LP3 (λ e. omega arith)) (flag-agrees IRQ (v .cr) (w .cr) (h .cr) LP4 (λ e. omega arith))
-      ∙ ap (λ (z : Voice). filtered (w .cr) (z .k1) (z .k2) x (outputs z)) (h .others)
+      ∙ ap (λ (z : Voice). filtered (w .cr) (z .k1) (z .k2) x (lastOutputs z)) (h .others)
 
   same-sample : (memory : List ℕ) → sampled memory v ≡ sampled memory w
   unfolding besideCR sampled
   same-sample memory =
-      ap (λ (s : Samples). between (fraction (v .accum)) (s .first) (s .second))
+      ap (λ (s : Samples). interpolated (fraction (v .accum)) (s .first) (s .second))
       (fetched-bank memory (v .cr) (w .cr) (v .accum) (flag-agrees IRQ (v .cr) (w .cr) (h .cr) CMPD (λ e. omega arith)) (bank-agrees (v .cr) (w .cr) (h .cr)))
-      ∙ ap (λ (z : Voice). let s = fetched memory (w .cr) (z .accum) in between (fraction (z .accum)) (s .first) (s .second)) (h .others)
+      ∙ ap (λ (z : Voice). let s = fetched memory (w .cr) (z .accum) in interpolated (fraction (z .accum)) (s .first) (s .second)) (h .others)
 
-  same-levels : (slow : ℕ) → levels slow v ≡ levels slow w
-  unfolding besideCR levels
-  same-levels slow = ap (levels slow) (h .others)
+  same-levels : (slow : ℕ) → rampedLevels slow v ≡ rampedLevels slow w
+  unfolding besideCR rampedLevels
+  same-levels slow = ap (rampedLevels slow) (h .others)
 
   same-place : SamePlace (stepped (v .cr) (v .fc) (v .start) (v .end) (v .accum)) (stepped (w .cr) (w .fc) (w .start) (w .end) (w .accum))
   unfolding besideCR
@@ -97,7 +97,7 @@ module _ (v w : Voice) (h : ButFlag v w) where
   running-same : (memory : List ℕ) (slow : ℕ) → SameTurn (runningTurn memory slow v) (runningTurn memory slow w)
   unfolding besideCR withOutputs moved runningTurn
   running-same memory slow =
-      let p = ap (λ (x : ℤ). filtered (v .cr) (v .k1) (v .k2) x (outputs v)) (same-sample memory) ∙ same-poles (sampled memory w) in
+      let p = ap (λ (x : ℤ). filtered (v .cr) (v .k1) (v .k2) x (lastOutputs v)) (same-sample memory) ∙ same-poles (sampled memory w) in
       let a = same-place in
       let l = same-levels slow in
       record {

@@ -15,7 +15,7 @@ use Rattle.address.specs.Address.{stepped}
 use Rattle.address.proofs.Range.{stepped-small}
 use Rattle.ramp.specs.Ramp.{ramped, slowRamped}
 use Rattle.voice.specs.Voice.{Voice}
-use Rattle.voice.specs.Turn.{outputs, levels, withOutputs, moved, sampled, stoppedTurn, runningTurn, turnOf}
+use Rattle.voice.specs.Turn.{lastOutputs, rampedLevels, withOutputs, moved, sampled, stoppedTurn, runningTurn, turnOf}
 use Rattle.voice.specs.Ranges.{Ranges, Leveled}
 use Rattle.voice.proofs.Laws.{with-outputs-ranges, moved-ranges, turn-runs, turn-stands}
 
@@ -45,8 +45,8 @@ slow-small : (slow x r : ℕ) → x < 65536 → slowRamped slow x r < 65536
 unfolding slowRamped
 slow-small slow x r h = either (λ y. y < 65536) (eqb (r % 2) 1 && not (eqb slow 0)) x (ramped x r) (λ t. h) (λ t. ramped-small x r)
 
-levels-small : (slow : ℕ) (v : Voice) → Ranges v → Leveled (levels slow v)
-unfolding levels
+levels-small : (slow : ℕ) (v : Voice) → Ranges v → Leveled (rampedLevels slow v)
+unfolding rampedLevels
 levels-small slow v h = either Leveled (eqb (v .ecount) 0) _ _
     (λ t. record { ecount = h .ecount; lvol = h .lvol; rvol = h .rvol; k1 = h .k1; k2 = h .k2 })
     (λ t. record {
@@ -60,10 +60,10 @@ levels-small slow v h = either Leveled (eqb (v .ecount) 0) _ _
 running-follows : (memory : List ℕ) (slow : ℕ) (v : Voice) → Ranges v → Places v → Follows v (runningTurn memory slow v .voice)
 unfolding runningTurn withOutputs moved
 running-follows memory slow v h p =
-    let q = filtered (v .cr) (v .k1) (v .k2) (sampled memory v) (outputs v) in
+    let q = filtered (v .cr) (v .k1) (v .k2) (sampled memory v) (lastOutputs v) in
     let a = stepped-small (v .cr) (v .fc) (v .start) (v .end) (v .accum) (h .cr) (p .start) (p .end) in
     record {
-      ranges = moved-ranges (withOutputs v q) (stepped (v .cr) (v .fc) (v .start) (v .end) (v .accum)) (levels slow v) (with-outputs-ranges v q h) (a .cr) (levels-small slow v h);
+      ranges = moved-ranges (withOutputs v q) (stepped (v .cr) (v .fc) (v .start) (v .end) (v .accum)) (rampedLevels slow v) (with-outputs-ranges v q h) (a .cr) (levels-small slow v h);
       accum = a .accum;
       fc = refl;
       lvramp = refl;
@@ -77,7 +77,7 @@ running-follows memory slow v h p =
 stopped-follows : (v : Voice) → Ranges v → Places v → Follows v (stoppedTurn v .voice)
 unfolding stoppedTurn withOutputs
 stopped-follows v h p = record {
-  ranges = with-outputs-ranges v (filtered (v .cr) (v .k1) (v .k2) (pos 0) (outputs v)) h;
+  ranges = with-outputs-ranges v (filtered (v .cr) (v .k1) (v .k2) (pos 0) (lastOutputs v)) h;
   accum = p .accum;
   fc = refl;
   lvramp = refl;

@@ -10,7 +10,7 @@ use Rattle.filter.specs.declared.Poles.{Poles}
 use Rattle.address.specs.declared.Place.{Place}
 use Rattle.ramp.specs.Ramp.{ramped, slowRamped}
 use Rattle.voice.specs.Voice.{Voice, Levels}
-use Rattle.voice.specs.Turn.{levels, withOutputs, moved, stoppedTurn, runningTurn, turnOf}
+use Rattle.voice.specs.Turn.{rampedLevels, withOutputs, moved, stoppedTurn, runningTurn, turnOf}
 use Rattle.voice.specs.Ranges.{Ranges, Leveled}
 
 pub with-outputs-ranges : (v : Voice) (p : Poles) → Ranges v → Ranges (withOutputs v p)
@@ -48,12 +48,12 @@ moved-ranges v a l h k r = record {
 }
 
 module _ (slow : ℕ) (v : Voice) where
-  pub levels-rest : v .ecount ≡ 0 → levels slow v ≡ record { ecount = v .ecount; lvol = v .lvol; rvol = v .rvol; k1 = v .k1; k2 = v .k2 }
-  unfolding levels
+  pub levels-rest : v .ecount ≡ 0 → rampedLevels slow v ≡ record { ecount = v .ecount; lvol = v .lvol; rvol = v .rvol; k1 = v .k1; k2 = v .k2 }
+  unfolding rampedLevels
   levels-rest h = rw (eq-eqb (v .ecount) 0 h)
 
   pub levels-move : (v .ecount ≡ 0 → ⊥)
-      → levels slow v
+      → rampedLevels slow v
       ≡ record {
         ecount = v .ecount - 1;
         lvol = ramped (v .lvol) (v .lvramp);
@@ -61,7 +61,7 @@ module _ (slow : ℕ) (v : Voice) where
         k1 = slowRamped slow (v .k1) (v .k1ramp);
         k2 = slowRamped slow (v .k2) (v .k2ramp);
       }
-  unfolding levels
+  unfolding rampedLevels
   levels-move h = rw (ne-eqb (v .ecount) 0 h)
 
 module _ (memory : List ℕ) (slow : ℕ) (v : Voice) where

@@ -19,7 +19,8 @@ use Rattle.numbers.proofs.Difference.{is-pos, pos-⊖, ⊖-sub}
 use Rattle.numbers.proofs.Words.{pos-sub}
 use Rattle.control.specs.Control.{bitOf, flagOf, withBit, runs, STP0, STP1, LEI, LPE, BLE, IRQE, DIR, IRQ}
 use Rattle.control.proofs.Bits.{flag-put, flag-other}
-use Rattle.address.specs.Address.{raised, event, forward, stepped}
+use Rattle.address.specs.Address.{raised, forwardEvent, forward, stepped}
+use Rattle.address.specs.Event.{event}
 use Rattle.address.specs.declared.Place.{Place}
 use Rattle.address.proofs.Laws.{raised-on, raised-off, turns, goes-on, forward-event, reverse-event, steps-back, steps-on, same-place, stored, back-test, on-within, back-within}
 use Rattle.voice.specs.Voice.{Voice, Turn}
@@ -74,8 +75,8 @@ module _ (b CR : ℕ) (h : b ≢ IRQ) where
       (λ t. ap (flagOf b) (raised-on CR t) ∙ flag-other b IRQ 1 CR (omega arith) h)
       (λ t. ap (flagOf b) (raised-off CR t))
 
-  turned-other : (turned : ℕ) → turned ≤ 1 → b ≢ DIR → flagOf b (withBit DIR turned (raised CR)) ≡ flagOf b CR
-  turned-other turned l g = flag-other b DIR turned (raised CR) l g ∙ raised-other
+  direction-other : (direction : ℕ) → direction ≤ 1 → b ≢ DIR → flagOf b (withBit DIR direction (raised CR)) ≡ flagOf b CR
+  direction-other direction l g = flag-other b DIR direction (raised CR) l g ∙ raised-other
 
 raised-mode : (k : Kind) (CR : ℕ) → Mode k CR → Mode k (raised CR)
 raised-mode Forward CR m = (raised-other BLE CR (omega arith) ∙ m .0, raised-other LPE CR (omega arith) ∙ m .1, raised-other DIR CR (omega arith) ∙ m .2)
@@ -137,14 +138,14 @@ module _ (k : Kind) (v w : Voice) (l : Loops k v) (q : Placed v w (next v)) (a :
       arrived k v w _ l r (raised-mode k (v .cr) (l .mode)) (λ b h g. raised-other b (v .cr) h) from to 1 (omega (arith, here (r .accum)))
 
 round : (v w : Voice) → Loops Bidirectional v → Placed v w (next v) → (a : ℕ) → v .start ≤ a → a ≤ v .end
-    → (turned : ℕ) → turned ≤ 1 → next v ≡ record { accum = word 32 (pos a); cr = withBit DIR turned (raised (v .cr)) }
-    → (j : ℕ) → (w .accum ≡ a → flagOf DIR (w .cr) ≡ eqb turned 1 → positionOf Bidirectional w + j * periodOf Bidirectional v ≡ positionOf Bidirectional v + v .fc)
+    → (direction : ℕ) → direction ≤ 1 → next v ≡ record { accum = word 32 (pos a); cr = withBit DIR direction (raised (v .cr)) }
+    → (j : ℕ) → (w .accum ≡ a → flagOf DIR (w .cr) ≡ eqb direction 1 → positionOf Bidirectional w + j * periodOf Bidirectional v ≡ positionOf Bidirectional v + v .fc)
     → InTune Bidirectional 1 v w
-round v w l q a from to turned t e j here =
+round v w l q a from to direction t e j here =
     let r = subst (Placed v w) (e ∙ same-place (stored a (omega arith)) refl) q in
-    let kept : (b : ℕ) → b ≢ IRQ → b ≢ DIR → flagOf b (withBit DIR turned (raised (v .cr))) ≡ flagOf b (v .cr) = λ b h g. turned-other b (v .cr) h turned t g in
+    let kept : (b : ℕ) → b ≢ IRQ → b ≢ DIR → flagOf b (withBit DIR direction (raised (v .cr))) ≡ flagOf b (v .cr) = λ b h g. direction-other b (v .cr) h direction t g in
     arrived Bidirectional v w _ l r (kept BLE (omega arith) (omega arith) ∙ l .mode .0, kept LPE (omega arith) (omega arith) ∙ l .mode .1) kept from to j
-    (here (r .accum) (ap (flagOf DIR) (r .cr) ∙ flag-put DIR turned (raised (v .cr)) t))
+    (here (r .accum) (ap (flagOf DIR) (r .cr) ∙ flag-put DIR direction (raised (v .cr)) t))
 
 -- the position in a bidirectional loop, on the way to END and on the way back
 module _ (v : Voice) where
@@ -259,5 +260,5 @@ accumAt n END = turnsOf (λ k. []) (λ k. 0) n (sustained 0x08 END) .accum
 
 -- Soon past the loop point the two are apart: END's fraction is part of the pitch.
 pub fraction-counts : (accumAt 53 124800 ≡ 24704) × (accumAt 53 (124800 / 2048 * 2048) ≡ 26624) × (accumAt 53 124800 ≢ accumAt 53 (124800 / 2048 * 2048))
-unfolding accumAt sustained turnsOf turnOf runningTurn moved withOutputs runs flagOf bitOf stepped forward event raised word floorMod
+unfolding accumAt sustained turnsOf turnOf runningTurn moved withOutputs runs flagOf bitOf stepped forward forwardEvent raised word floorMod
 fraction-counts = (refl, refl, λ e. omega arith)

@@ -13,15 +13,16 @@ use Rattle.filter.specs.Filter.{filtered}
 use Rattle.filter.specs.declared.Poles.{Poles}
 use Rattle.address.specs.Address.{stepped}
 use Rattle.address.specs.declared.Place.{Place}
+use Rattle.machine.specs.Words.{CR}
 use Rattle.voice.specs.declared.Addend.{Addend}
 use Rattle.voice.specs.Voice.{Voice, Levels, voiceOf, wordsOf}
-use Rattle.voice.specs.Turn.{outputs, levels, withOutputs, moved, turnOf}
+use Rattle.voice.specs.Turn.{lastOutputs, rampedLevels, withOutputs, moved, turnOf}
 
 -- ---- the parts of a turn
 
 -- the outputs of the poles when x passes
 unfoldable pub passing : ℤ → Voice → Poles
-passing x v = filtered (v .cr) (v .k1) (v .k2) x (outputs v)
+passing x v = filtered (v .cr) (v .k1) (v .k2) x (lastOutputs v)
 
 -- the place and the levels of a voice as they stand
 abbrev pub placeOf : Voice → Place
@@ -37,7 +38,7 @@ unfoldable pub afterStep : List ℕ → List ℕ
 afterStep w = let v = voiceOf w in wordsOf (moved v (stepped (v .cr) (v .fc) (v .start) (v .end) (v .accum)) (levelsOf v))
 
 unfoldable pub afterRamps : ℕ → List ℕ → List ℕ
-afterRamps slow w = let v = voiceOf w in wordsOf (moved v (placeOf v) (levels slow v))
+afterRamps slow w = let v = voiceOf w in wordsOf (moved v (placeOf v) (rampedLevels slow v))
 
 -- ---- the promises
 
@@ -50,7 +51,7 @@ pub record Passes (x : ℤ) (w after : List ℕ) (o4 : ℤ) : Type 0 where
 -- A turn: the words afterwards, and what is added to which channel. A stopped voice adds nothing, and names a channel that is none.
 pub record TakesTurn (memory : List ℕ) (slow : ℕ) (w after : List ℕ) (a : Addend) : Type 0 where
   pub words : after ≡ wordsOf (turnOf memory slow (voiceOf w) .voice)
-  pub channel : a .channel ≡ cond (runs (getD w 0 0)) (channelOf (getD w 0 0)) 7
+  pub channel : a .channel ≡ cond (runs (getD w CR 0)) (channelOf (getD w CR 0)) 7
   pub left : a .left ≡ turnOf memory slow (voiceOf w) .left
   pub right : a .right ≡ turnOf memory slow (voiceOf w) .right
   pub small-left : Within 1048576 (a .left)

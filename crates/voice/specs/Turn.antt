@@ -10,7 +10,7 @@ use lib.Dec.{eqb}
 use lib.IntN.{ℤ, pos}
 use Rattle.numbers.specs.Numbers.{signed, word}
 use Rattle.control.specs.Control.{runs}
-use Rattle.sample.specs.Sample.{fetched, fraction, between}
+use Rattle.sample.specs.Sample.{fetched, fraction, interpolated}
 use Rattle.filter.specs.Filter.{filtered}
 use Rattle.filter.specs.declared.Poles.{Poles}
 use Rattle.volume.specs.Volume.{panned}
@@ -20,12 +20,12 @@ use Rattle.ramp.specs.Ramp.{ramped, slowRamped}
 use Rattle.voice.specs.Voice.{Voice, Levels, Turn}
 
 -- the last outputs of the poles: the (n-1) words, signed 18 bits
-unfoldable pub outputs : Voice → Poles
-outputs v = record { o1 = signed 18 (v .o1n1); o2 = signed 18 (v .o2n1); o3 = signed 18 (v .o3n1); o4 = signed 18 (v .o4n1) }
+unfoldable pub lastOutputs : Voice → Poles
+lastOutputs v = record { o1 = signed 18 (v .o1n1); o2 = signed 18 (v .o2n1); o3 = signed 18 (v .o3n1); o4 = signed 18 (v .o4n1) }
 
 -- the levels after the ramps, which work while ECOUNT is not 0 and count it down
-unfoldable pub levels : ℕ → Voice → Levels
-levels slow v =
+unfoldable pub rampedLevels : ℕ → Voice → Levels
+rampedLevels slow v =
     cond (eqb (v .ecount) 0)
     (record { ecount = v .ecount; lvol = v .lvol; rvol = v .rvol; k1 = v .k1; k2 = v .k2 })
     (record {
@@ -90,18 +90,18 @@ moved v a l =
 
 -- A stopped voice reads no memory, so its poles take 0 in; nothing else of it works. It adds nothing to its channel.
 unfoldable pub stoppedTurn : Voice → Turn
-stoppedTurn v = record { voice = withOutputs v (filtered (v .cr) (v .k1) (v .k2) (pos 0) (outputs v)); left = pos 0; right = pos 0 }
+stoppedTurn v = record { voice = withOutputs v (filtered (v .cr) (v .k1) (v .k2) (pos 0) (lastOutputs v)); left = pos 0; right = pos 0 }
 
 -- the value that a running voice's poles take in
 unfoldable pub sampled : List ℕ → Voice → ℤ
-sampled memory v = let s = fetched memory (v .cr) (v .accum) in between (fraction (v .accum)) (s .first) (s .second)
+sampled memory v = let s = fetched memory (v .cr) (v .accum) in interpolated (fraction (v .accum)) (s .first) (s .second)
 
 -- A running voice: sample, filters, volume, address and ramps.
 unfoldable pub runningTurn : List ℕ → ℕ → Voice → Turn
 runningTurn memory slow v =
-    let p = filtered (v .cr) (v .k1) (v .k2) (sampled memory v) (outputs v) in
+    let p = filtered (v .cr) (v .k1) (v .k2) (sampled memory v) (lastOutputs v) in
     record {
-      voice = moved (withOutputs v p) (stepped (v .cr) (v .fc) (v .start) (v .end) (v .accum)) (levels slow v);
+      voice = moved (withOutputs v p) (stepped (v .cr) (v .fc) (v .start) (v .end) (v .accum)) (rampedLevels slow v);
       left = panned (v .lvol) (p .o4);
       right = panned (v .rvol) (p .o4);
     }

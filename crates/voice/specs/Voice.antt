@@ -5,6 +5,7 @@ use Prim.Native.Nat.{ℕ}
 use mathlib.Core.List.{List, [], _∷_}
 use lib.IntN.{ℤ}
 use lib.ListN.{getD}
+use Rattle.machine.specs.Words.{CR, FC, LVOL, LVRAMP, RVOL, RVRAMP, ECOUNT, K2, K2RAMP, K1, K1RAMP, START, END, ACCUM, O4N1, O3N1, O3N2, O2N1, O2N2, O1N1}
 
 pub record Voice : Type 0 where
   pub cr : ℕ
@@ -31,26 +32,26 @@ pub record Voice : Type 0 where
 abbrev pub voiceOf : List ℕ → Voice
 voiceOf w =
     record {
-      cr = getD w 0 0;
-      fc = getD w 1 0;
-      lvol = getD w 2 0;
-      lvramp = getD w 3 0;
-      rvol = getD w 4 0;
-      rvramp = getD w 5 0;
-      ecount = getD w 6 0;
-      k2 = getD w 7 0;
-      k2ramp = getD w 8 0;
-      k1 = getD w 9 0;
-      k1ramp = getD w 10 0;
-      start = getD w 11 0;
-      end = getD w 12 0;
-      accum = getD w 13 0;
-      o4n1 = getD w 14 0;
-      o3n1 = getD w 15 0;
-      o3n2 = getD w 16 0;
-      o2n1 = getD w 17 0;
-      o2n2 = getD w 18 0;
-      o1n1 = getD w 19 0;
+      cr = getD w CR 0;
+      fc = getD w FC 0;
+      lvol = getD w LVOL 0;
+      lvramp = getD w LVRAMP 0;
+      rvol = getD w RVOL 0;
+      rvramp = getD w RVRAMP 0;
+      ecount = getD w ECOUNT 0;
+      k2 = getD w K2 0;
+      k2ramp = getD w K2RAMP 0;
+      k1 = getD w K1 0;
+      k1ramp = getD w K1RAMP 0;
+      start = getD w START 0;
+      end = getD w END 0;
+      accum = getD w ACCUM 0;
+      o4n1 = getD w O4N1 0;
+      o3n1 = getD w O3N1 0;
+      o3n2 = getD w O3N2 0;
+      o2n1 = getD w O2N1 0;
+      o2n2 = getD w O2N2 0;
+      o1n1 = getD w O1N1 0;
     }
 
 unfoldable pub wordsOf : Voice → List ℕ

@@ -9,54 +9,14 @@ ghost use lib.ListN.{length, getD};
 ghost use Rattle.numbers.specs.Numbers.{Bits};
 ghost use Rattle.codes.specs.Codes.{Expands};
 ghost use Rattle.control.specs.Control.{runs};
-ghost use Rattle.filter.specs.Outputs.{Outputs};
+ghost use Rattle.filter.specs.PoleBits.{PoleBits};
 ghost use Rattle.sample.specs.Lasts.{Lasts};
+ghost use Rattle.machine.specs.Words.{VOICE_WORDS, CR, FC, ACCUM};
 ghost use Rattle.voice.specs.Voice.{voiceOf};
-ghost use Rattle.voice.specs.Turn.{sampled, outputs as Turn·outputs};
+ghost use Rattle.voice.specs.Turn.{sampled, lastOutputs};
 ghost use Rattle.voice.specs.Ranges.{Ranges, Leveled};
 ghost use Rattle.voice.specs.Takes.{levelsOf, afterStep, afterRamps, Passes, TakesTurn};
 use filter::Poles;
-
-// The words of a voice.
-pub const CR: usize = 0;
-
-pub const FC: usize = 1;
-
-pub const LVOL: usize = 2;
-
-pub const LVRAMP: usize = 3;
-
-pub const RVOL: usize = 4;
-
-pub const RVRAMP: usize = 5;
-
-pub const ECOUNT: usize = 6;
-
-pub const K2: usize = 7;
-
-pub const K2RAMP: usize = 8;
-
-pub const K1: usize = 9;
-
-pub const K1RAMP: usize = 10;
-
-pub const START: usize = 11;
-
-pub const END: usize = 12;
-
-pub const ACCUM: usize = 13;
-
-pub const O4N1: usize = 14;
-
-pub const O3N1: usize = 15;
-
-pub const O3N2: usize = 16;
-
-pub const O2N1: usize = 17;
-
-pub const O2N2: usize = 18;
-
-pub const O1N1: usize = 19;
 
 // What a turn adds to the left and right sums of a channel; channel 7 is none.
 pub struct Addend {
@@ -73,18 +33,18 @@ pub fn turn(
     lasts: &[usize; 4],
     table: &[i16; 256],
 ) -> Addend
-    requires { ⌜ length (now w) ≡ 20 ⌝ }
+    requires { ⌜ length (now w) ≡ VOICE_WORDS ⌝ }
     requires { ⌜ Ranges (voiceOf (now w)) ⌝ }
     requires { ⌜ Lasts (length (now memory)) (now lasts) ⌝ }
     requires { ⌜ Expands (now table) ⌝ }
     ensures { λ r. ⌜ TakesTurn (now (memory .entry)) slow (now (w .entry)) (now (w .exit)) r ⌝ }
 {
-    let cr = w[CR];
+    let cr = w[machine::CR];
     let x = input(w, cr, memory, lasts, table);
     let o4 = pass(w, cr, x);
     if control::running(cr) {
-        let left = volume::pan(w[LVOL], o4);
-        let right = volume::pan(w[RVOL], o4);
+        let left = volume::pan(w[machine::LVOL], o4);
+        let right = volume::pan(w[machine::RVOL], o4);
         step(w, cr);
         ramps(w, slow);
         return Addend {
@@ -103,8 +63,8 @@ pub fn turn(
 
 // What goes into the filters: the sample that the voice is at, or 0 where it is stopped.
 fn input(w: &[u32], cr: u32, memory: &[u16], lasts: &[usize; 4], table: &[i16; 256]) -> i32
-    requires { ⌜ length (now w) ≡ 20 ⌝ }
-    requires { ⌜ (cr ≡ getD (now w) 0 0) × (cr < 65536) ⌝ }
+    requires { ⌜ length (now w) ≡ VOICE_WORDS ⌝ }
+    requires { ⌜ (cr ≡ getD (now w) CR 0) × (cr < 65536) ⌝ }
     requires { ⌜ Lasts (length (now memory)) (now lasts) ⌝ }
     requires { ⌜ Expands (now table) ⌝ }
     ensures { λ r. ⌜ (r ≡ cond (runs cr) (sampled (now (memory .entry)) (voiceOf (now (w .entry)))) (pos 0)) × Bits 18 r ⌝ }
@@ -112,60 +72,60 @@ fn input(w: &[u32], cr: u32, memory: &[u16], lasts: &[usize; 4], table: &[i16; 2
     if !control::running(cr) {
         return 0;
     }
-    sample::interpolate(memory, lasts, table, cr, w[ACCUM])
+    sample::interpolate(memory, lasts, table, cr, w[machine::ACCUM])
 }
 
 // The sample x passes the filters; the new output of pole 4. The old outputs move back first, so that no copy of them is kept.
 fn pass(w: &mut [u32], cr: u32, x: i32) -> i32
-    requires { ⌜ length (now w) ≡ 20 ⌝ }
+    requires { ⌜ length (now w) ≡ VOICE_WORDS ⌝ }
     requires { ⌜ Ranges (voiceOf (now w)) ⌝ }
-    requires { ⌜ cr ≡ getD (now w) 0 0 ⌝ }
+    requires { ⌜ cr ≡ getD (now w) CR 0 ⌝ }
     requires { ⌜ Bits 18 x ⌝ }
     ensures { λ r. ⌜ Passes x (now (w .entry)) (now (w .exit)) r ⌝ }
 {
-    w[O2N2] = w[O2N1];
-    w[O3N2] = w[O3N1];
-    let p = filter::filter(cr, w[K1], w[K2], x, outputs(w));
-    w[O1N1] = numbers::word_of(18, p.o1);
-    w[O2N1] = numbers::word_of(18, p.o2);
-    w[O3N1] = numbers::word_of(18, p.o3);
-    w[O4N1] = numbers::word_of(18, p.o4);
+    w[machine::O2N2] = w[machine::O2N1];
+    w[machine::O3N2] = w[machine::O3N1];
+    let p = filter::filter(cr, w[machine::K1], w[machine::K2], x, last_outputs(w));
+    w[machine::O1N1] = numbers::word_of(18, p.o1);
+    w[machine::O2N1] = numbers::word_of(18, p.o2);
+    w[machine::O3N1] = numbers::word_of(18, p.o3);
+    w[machine::O4N1] = numbers::word_of(18, p.o4);
     p.o4
 }
 
 // The last outputs of the poles.
-fn outputs(w: &[u32]) -> Poles
-    requires { ⌜ length (now w) ≡ 20 ⌝ }
+fn last_outputs(w: &[u32]) -> Poles
+    requires { ⌜ length (now w) ≡ VOICE_WORDS ⌝ }
     requires { ⌜ Ranges (voiceOf (now w)) ⌝ }
-    ensures { λ r. ⌜ (r ≡ Turn·outputs (voiceOf (now (w .entry)))) × Outputs r ⌝ }
+    ensures { λ r. ⌜ (r ≡ lastOutputs (voiceOf (now (w .entry)))) × PoleBits r ⌝ }
 {
     Poles {
-        o1: numbers::number_of(18, w[O1N1]),
-        o2: numbers::number_of(18, w[O2N1]),
-        o3: numbers::number_of(18, w[O3N1]),
-        o4: numbers::number_of(18, w[O4N1]),
+        o1: numbers::number_of(18, w[machine::O1N1]),
+        o2: numbers::number_of(18, w[machine::O2N1]),
+        o3: numbers::number_of(18, w[machine::O3N1]),
+        o4: numbers::number_of(18, w[machine::O4N1]),
     }
 }
 
 // ACCUM goes on: forward to END, in reverse to START. Where it does not pass that loop point nothing else changes, whatever the loop mode.
 fn step(w: &mut [u32], cr: u32)
-    requires { ⌜ length (now w) ≡ 20 ⌝ }
-    requires { ⌜ (cr ≡ getD (now w) 0 0) × (cr < 65536) ⌝ }
+    requires { ⌜ length (now w) ≡ VOICE_WORDS ⌝ }
+    requires { ⌜ (cr ≡ getD (now w) CR 0) × (cr < 65536) ⌝ }
     ensures { λ _. ⌜ now (w .exit) ≡ afterStep (now (w .entry)) ⌝ }
 {
-    let fc = w[FC];
-    let accum = w[ACCUM];
+    let fc = w[machine::FC];
+    let accum = w[machine::ACCUM];
     if control::flag(control::DIR, cr) {
         let t = accum as i64 - fc as i64;
-        if t < w[START] as i64 {
+        if t < w[machine::START] as i64 {
             step_past(w, cr, fc, accum);
         } else {
-            w[ACCUM] = t as u32;
+            w[machine::ACCUM] = t as u32;
         }
     } else {
         let t = accum as u64 + fc as u64;
-        if t <= w[END] as u64 {
-            w[ACCUM] = t as u32;
+        if t <= w[machine::END] as u64 {
+            w[machine::ACCUM] = t as u32;
         } else {
             step_past(w, cr, fc, accum);
         }
@@ -174,32 +134,32 @@ fn step(w: &mut [u32], cr: u32)
 
 // The step that passes a loop point, whether the voice heeds it or not.
 fn step_past(w: &mut [u32], cr: u32, fc: u32, accum: u32)
-    requires { ⌜ length (now w) ≡ 20 ⌝ }
-    requires { ⌜ (cr ≡ getD (now w) 0 0) × (cr < 65536) ⌝ }
-    requires { ⌜ (fc ≡ getD (now w) 1 0) × (accum ≡ getD (now w) 13 0) ⌝ }
+    requires { ⌜ length (now w) ≡ VOICE_WORDS ⌝ }
+    requires { ⌜ (cr ≡ getD (now w) CR 0) × (cr < 65536) ⌝ }
+    requires { ⌜ (fc ≡ getD (now w) FC 0) × (accum ≡ getD (now w) ACCUM 0) ⌝ }
     ensures { λ _. ⌜ now (w .exit) ≡ afterStep (now (w .entry)) ⌝ }
 {
-    let p = address::step(cr, fc, w[START], w[END], accum);
-    w[CR] = p.cr;
-    w[ACCUM] = p.accum;
+    let p = address::step(cr, fc, w[machine::START], w[machine::END], accum);
+    w[machine::CR] = p.cr;
+    w[machine::ACCUM] = p.accum;
 }
 
 // The ramps move their levels while ECOUNT is not 0.
 fn ramps(w: &mut [u32], slow: u32)
-    requires { ⌜ length (now w) ≡ 20 ⌝ }
+    requires { ⌜ length (now w) ≡ VOICE_WORDS ⌝ }
     requires { ⌜ Leveled (levelsOf (voiceOf (now w))) ⌝ }
     ensures { λ _. ⌜ now (w .exit) ≡ afterRamps slow (now (w .entry)) ⌝ }
 {
-    let n = w[ECOUNT];
+    let n = w[machine::ECOUNT];
     if n != 0 {
-        let lvol = ramp::ramp(w[LVOL], w[LVRAMP]);
-        let rvol = ramp::ramp(w[RVOL], w[RVRAMP]);
-        let k1 = ramp::slow_ramp(slow, w[K1], w[K1RAMP]);
-        let k2 = ramp::slow_ramp(slow, w[K2], w[K2RAMP]);
-        w[ECOUNT] = n - 1;
-        w[LVOL] = lvol;
-        w[RVOL] = rvol;
-        w[K1] = k1;
-        w[K2] = k2;
+        let lvol = ramp::ramp(w[machine::LVOL], w[machine::LVRAMP]);
+        let rvol = ramp::ramp(w[machine::RVOL], w[machine::RVRAMP]);
+        let k1 = ramp::slow_ramp(slow, w[machine::K1], w[machine::K1RAMP]);
+        let k2 = ramp::slow_ramp(slow, w[machine::K2], w[machine::K2RAMP]);
+        w[machine::ECOUNT] = n - 1;
+        w[machine::LVOL] = lvol;
+        w[machine::RVOL] = rvol;
+        w[machine::K1] = k1;
+        w[machine::K2] = k2;
     }
 }

@@ -13,7 +13,7 @@ returns : tie.Need-returns
 returns c =
     let a = c .before .before .before .before .before .before in
     let s = a .before in (
-      same-place (c .before .wrap .ensures ∙ ap (word 32) (toZ-ofZ (s .fits .back))) (c .with-bit .ensures .0 ∙ ap (withBit DIR (s .args .turned)) (a .raise .ensures .0))
+      same-place (c .before .wrap .ensures ∙ ap (word 32) (toZ-ofZ (s .fits .back))) (c .with-bit .ensures .0 ∙ ap (withBit DIR (s .args .direction)) (a .raise .ensures .0))
           ∙ sym (turns _ _ _ _ _ (sym (c .before .before .before .before .before .flag .ensures) ∙ c .before .before .before .before .if1 .taken)
           (sym (c .before .before .before .flag2 .ensures) ∙ c .before .before .if2 .taken)),
       c .with-bit .ensures .1,
@@ -23,7 +23,7 @@ returns-2 : tie.Need-returns-2
 returns-2 c =
     let a = c .before .before .before .before .before .before .before in
     let s = a .before in (
-      same-place (c .before .wrap2 .ensures ∙ ap (word 32) (toZ-ofZ (s .fits .other)))
+      same-place (c .before .wrap2 .ensures ∙ ap (word 32) (toZ-ofZ (s .fits .across)))
           (c .with-bit3 .ensures .0 ∙ ap (withBit LEI 1) (c .before .before .with-bit2 .ensures .0 ∙ ap (withBit BLE 0) (a .raise .ensures .0)))
           ∙ sym (goes-on-once _ _ _ _ _ (sym (c .before .before .before .before .before .before .flag .ensures) ∙ c .before .before .before .before .before .if1 .taken)
           (sym (c .before .before .before .before .flag2 .ensures) ∙ c .before .before .before .if2 .left)),
@@ -34,7 +34,7 @@ returns-3 : tie.Need-returns-3
 returns-3 c =
     let a = c .before .before .before .before .before in
     let s = a .before in (
-      same-place (c .wrap3 .ensures ∙ ap (word 32) (toZ-ofZ (s .fits .other))) (a .raise .ensures .0)
+      same-place (c .wrap3 .ensures ∙ ap (word 32) (toZ-ofZ (s .fits .across))) (a .raise .ensures .0)
           ∙ sym (goes-on _ _ _ _ _ (sym (c .before .before .before .before .flag .ensures) ∙ c .before .before .before .if1 .left)
           (sym (c .before .before .flag3 .ensures) ∙ c .before .if3 .taken)),
       a .raise .ensures .1,

@@ -8,7 +8,7 @@ use mir.Syntax.{w64}
 use mir.Val.{toZ, ofZ}
 use Rattle.numbers.specs.Numbers.{word}
 use Rattle.numbers.proofs.Local.{Done, nat, add, sub, test-le, within}
-use Rattle.address.specs.Address.{event}
+use Rattle.address.specs.Event.{event}
 use Rattle.address.proofs.Laws.{forward-free, forward-within, forward-event, same-place}
 use Rattle.address.proofs.forward.Statement.{statement}
 use Rattle.address.proofs.forward.Tie as tie

@@ -9,19 +9,19 @@ use borrow.Author.Tests.{lt-ltb, le-ltb}
 use lib.ListN.{length, drop}
 use lib.Seq.{sets-eq}
 use Rattle.chart.specs.declared.Charted.the-variants.{Written, NoRoom}
-use Rattle.chart.specs.Chart.{tooLong, lines, chartOf, answerOf, outputOf, Stored}
+use Rattle.chart.specs.Chart.{tooLong, lines, chartOf, chartAnswer, chartOutput, Stored}
 use Rattle.chart.proofs.Stores.{reads-as}
 use Rattle.chart.proofs.Lines.{lines-length}
 use Rattle.chart.proofs.chart.Statement.{statement}
 use Rattle.chart.proofs.chart.Tie as tie
 
-no-room : (input out : List ℕ) → length out < 9 * length input → (NoRoom ≡ answerOf input out) × (out ≡ outputOf input out)
-unfolding answerOf outputOf
+no-room : (input out : List ℕ) → length out < 9 * length input → (NoRoom ≡ chartAnswer input out) × (out ≡ chartOutput input out)
+unfolding chartAnswer chartOutput
 no-room input out h = rw (lt-ltb (length out) (9 * length input) h) (refl, refl)
 
 written : (input out out′ : List ℕ) (r : ℕ) → 9 * length input ≤ length out → length (chartOf input) ≤ 9 * length input → Stored out 0 (chartOf input) out′ r
-    → (Written r ≡ answerOf input out) × (out′ ≡ outputOf input out)
-unfolding answerOf outputOf
+    → (Written r ≡ chartAnswer input out) × (out′ ≡ chartOutput input out)
+unfolding chartAnswer chartOutput
 written input out out′ r h k s =
     let t = chartOf input in
     rw (le-ltb (length out) (9 * length input) h) (

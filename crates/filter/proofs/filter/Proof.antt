@@ -10,7 +10,7 @@ use Rattle.numbers.specs.Numbers.{Bits}
 use Rattle.numbers.proofs.Local.{held, handed, bits-held, bits-back}
 use Rattle.filter.specs.declared.Poles.{Poles}
 use Rattle.filter.specs.Filter.{lowPass, pole3, pole4, coefficient, filtered}
-use Rattle.filter.specs.Outputs.{Outputs}
+use Rattle.filter.specs.PoleBits.{PoleBits}
 use Rattle.filter.proofs.filter.Statement.{statement}
 use Rattle.filter.proofs.filter.Tie as tie
 
@@ -27,7 +27,7 @@ in-a-row cr K₁ K₂ x p r e₁ e₂ e₃ e₄ =
 third-requires : tie.Need-third-requires
 third-requires c κs =
     let o = c .before .before .before .before .before .before .pre .1 .1 .1 in
-    (omega arith, (omega arith, (bits-back w32 (c .before .before .low-pass2 .ok) (c .before .before .low-pass2 .ensures .1), (bits-held w32 tt (o .second), bits-held w32 tt (o .third)))))
+    (omega arith, (omega arith, (bits-back w32 (c .before .before .low-pass2 .ok) (c .before .before .low-pass2 .ensures .1), (bits-held w32 tt (o .o2), bits-held w32 tt (o .o3)))))
 
 returns : tie.Need-returns
 returns c =
@@ -35,10 +35,10 @@ returns c =
     let o = s .pre .1 .1 .1 in
     let p = s .args .p in
     let hx = held w32 tt (s .pre .1 .1 .0) .is in
-    let h1 = held w32 tt (o .first) .is in
-    let h2 = held w32 tt (o .second) .is in
-    let h3 = held w32 tt (o .third) .is in
-    let h4 = held w32 tt (o .fourth) .is in
+    let h1 = held w32 tt (o .o1) .is in
+    let h2 = held w32 tt (o .o2) .is in
+    let h3 = held w32 tt (o .o3) .is in
+    let h4 = held w32 tt (o .o4) .is in
     let c1 = c .before .before .before .before .before .before .before .before .low-pass in
     let c2 = c .before .before .before .before .before .before .low-pass2 in
     let c3 = c .before .before .before .third in
@@ -47,7 +47,7 @@ returns c =
     let r2 : (y (c2 .result) ≡ lowPass (s .args .k1 / 16) (y (c1 .result)) (p .o2)) × Bits 18 (y (c2 .result)) = handed w32 (Bits 18) (c2 .ok) (c2 .ensures) (rw h2) in
     let r3 : (y (c3 .result) ≡ pole3 (s .args .cr) (s .args .k1 / 16) (s .args .k2 / 16) (y (c2 .result)) (p .o2) (p .o3)) × Bits 18 (y (c3 .result)) = handed w32 (Bits 18) (c3 .ok) (c3 .ensures) (rw (h2, h3)) in
     let r4 : (y (c .fourth .result) ≡ pole4 (s .args .cr) (s .args .k2 / 16) (y (c3 .result)) (p .o3) (p .o4)) × Bits 18 (y (c .fourth .result)) = handed w32 (Bits 18) (c .fourth .ok) (c .fourth .ensures) (rw (h3, h4)) in
-    (in-a-row (s .args .cr) (s .args .k1) (s .args .k2) (s .args .x) p _ (r1 .0) (r2 .0) (r3 .0) (r4 .0), record { first = r1 .1; second = r2 .1; third = r3 .1; fourth = r4 .1 })
+    (in-a-row (s .args .cr) (s .args .k1) (s .args .k2) (s .args .x) p _ (r1 .0) (r2 .0) (r3 .0) (r4 .0), record { o1 = r1 .1; o2 = r2 .1; o3 = r3 .1; o4 = r4 .1 })
 
 pub filter-spec : {M : Type 1} → statement M
 filter-spec = tie.close (tie.spec (λ c κs. search needs) (λ c κs. search needs) third-requires (λ c κs. search needs) returns)

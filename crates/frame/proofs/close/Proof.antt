@@ -7,15 +7,15 @@ use borrow.Author.Needs.{needs}
 use lib.ListN.{length, getD, take, drop, length-take, length-drop}
 use lib.Seq.{getD-take, getD-drop}
 use Rattle.channel.specs.Channel.{putOut}
-use Rattle.machine.specs.Words.{SUMS, WORDS}
+use Rattle.machine.specs.Words.{SUMS, RECORD_WORDS}
 use Rattle.frame.specs.Frame.{closed, silenced, heard}
 use Rattle.frame.proofs.close.Statement.{statement}
 use Rattle.frame.proofs.close.Tie as tie
 
-twelve : (m : List ℕ) → length m ≡ WORDS → length (take 12 (drop SUMS m)) ≡ 12
+twelve : (m : List ℕ) → length m ≡ RECORD_WORDS → length (take 12 (drop SUMS m)) ≡ 12
 twelve m h = simp (length-take, length-drop) (omega arith)
 
-small : (m : List ℕ) → length m ≡ WORDS → ((i : ℕ) → i < 12 → getD m (SUMS + i) 0 < 8388608) → (i : ℕ) → i < length (take 12 (drop SUMS m)) → getD (take 12 (drop SUMS m)) i 0 < 8388608
+small : (m : List ℕ) → length m ≡ RECORD_WORDS → ((i : ℕ) → i < 12 → getD m (SUMS + i) 0 < 8388608) → (i : ℕ) → i < length (take 12 (drop SUMS m)) → getD (take 12 (drop SUMS m)) i 0 < 8388608
 small m h f i k = let l : i < 12 = omega (arith, twelve m h) in rw (getD-take 12 (drop SUMS m) i 0 l, getD-drop SUMS m i 0) (f i l)
 
 put-out-requires : tie.Need-put-out-requires

@@ -8,7 +8,7 @@ use Rattle.answer.proofs.Refusals.{is-refusal}
 use Rattle.machine.proofs.Valid.{Sound, is-valid}
 use Rattle.frame.specs.Frame.{closed, heard, frameAnswer}
 use Rattle.frame.proofs.Keeps.{sound-played, sum-small}
-use Rattle.frame.proofs.Calls.{done-frame, frames-refused, frames-done}
+use Rattle.frame.proofs.Answered.{done-frame, frames-refused, frames-done}
 use Rattle.frame.proofs.frame.Statement.{statement}
 use Rattle.frame.proofs.frame.Tie as tie
 

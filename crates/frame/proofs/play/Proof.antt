@@ -28,7 +28,7 @@ record Playing (first memory lasts : List ℕ) (table : List ℤ) (slow n : ℕ)
   active : n ≡ getD first ACTV 0 + 1
   most : n ≤ 32
   passed : v ≤ n
-  turned : m ≡ turns memory v first
+  so-far : m ≡ turns memory v first
 
 abbrev Inv-loop : tie.InvT-loop
 Inv-loop m₀ memory lasts table slow actv n v₀ m v = Playing m₀ memory lasts table slow n m v
@@ -49,7 +49,7 @@ loop-holds c =
       active = c .count .ensures;
       most = omega (arith, c .count .ensures, active-le (s .args .m .now) r);
       passed = omega arith;
-      turned = refl;
+      so-far = refl;
     }
 
 turn-requires : tie.Need-turn-requires Inv-loop μ-loop
@@ -58,11 +58,11 @@ turn-requires c κs =
     let memory = now (c .before .before .before .before .before .before .before .before .before .before .before .before .args .memory) in
     let h = l .inv in
     let few : l .v ≤ 32 = omega arith in (
-      subst (λ (x : List ℕ). valid x ≡ true) (sym (h .turned)) (is-valid _ (sound-turns memory (l .v) (h .whole) few)),
+      subst (λ (x : List ℕ). valid x ≡ true) (sym (h .so-far)) (is-valid _ (sound-turns memory (l .v) (h .whole) few)),
       (
         omega arith,
         (
-          h .counter ∙ sym (ap (λ (x : List ℕ). getD x SLOW 0) (h .turned) ∙ turns-slow memory (l .v) (h .whole) few),
+          h .counter ∙ sym (ap (λ (x : List ℕ). getD x SLOW 0) (h .so-far) ∙ turns-slow memory (l .v) (h .whole) few),
           (h .near, h .codes),
         ),
       ),
@@ -82,7 +82,7 @@ loop-again c =
       active = h .active;
       most = h .most;
       passed = omega arith;
-      turned = rw add-one (c .before .before .turn .ensures ∙ ap (turnAt memory (l .v)) (h .turned));
+      so-far = rw add-one (c .before .before .turn .ensures ∙ ap (turnAt memory (l .v)) (h .so-far));
     }
 
 -- the record after the turns so far has as many words as the first
@@ -91,7 +91,7 @@ same-length c =
     let l = c .before .loop in
     let h = l .inv in
     let memory = now (c .before .before .before .before .before .before .before .before .before .args .memory) in
-    ap length (h .turned) ∙ sound-turns memory (l .v) (h .whole) (omega arith) .size ∙ sym (h .whole .size)
+    ap length (h .so-far) ∙ sound-turns memory (l .v) (h .whole) (omega arith) .size ∙ sym (h .whole .size)
 
 returns : tie.Need-returns Inv-loop μ-loop
 unfolding played
@@ -100,7 +100,7 @@ returns c =
     let h = l .inv in
     let s = c .before .before .before .before .before .before .before .before .before in
     let e : l .v ≡ getD (s .args .m .now) ACTV 0 + 1 = omega (arith, h .active, h .passed, c .loop-test .left) in
-    h .turned ∙ ap (λ (k : ℕ). turns (now (s .args .memory)) k (s .args .m .now)) e
+    h .so-far ∙ ap (λ (k : ℕ). turns (now (s .args .memory)) k (s .args .m .now)) e
 
 pub play-spec : {M : Type 1} → statement M
 play-spec =

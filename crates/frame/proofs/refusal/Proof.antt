@@ -2,15 +2,15 @@
 use mathlib.Core.Path.{_≡_, sym, ap, _∙_}
 use borrow.Author.Needs.{needs}
 use Rattle.answer.specs.Answer.{isDone}
-use Rattle.answer.specs.declared.Answer.the-variants.{Done}
 use Rattle.answer.proofs.Refusals.{is-refusal}
-use Rattle.machine.specs.Calls.{checked}
-use Rattle.frame.proofs.Calls.{refused-record, refused-memory, refused-output, not-refused-frame}
+use Rattle.machine.proofs.Valid.{Sound}
+use Rattle.machine.proofs.Answers.{not-refused}
+use Rattle.frame.proofs.Answered.{refused-record, refused-memory, refused-output, not-refused-frame}
 use Rattle.frame.proofs.refusal.Statement.{statement}
 use Rattle.frame.proofs.refusal.Tie as tie
 
-fine : (c : tie.After-enum-told) → checked (c .before .before .before .before .before .args .m .now) ≡ Done
-fine c = sym (c .before .before .check .ensures) ∙ c .enum-told .given .1
+fine : (c : tie.After-enum-told) → Sound (c .before .before .before .before .before .args .m .now)
+fine c = not-refused _ (sym (c .before .before .check .ensures) ∙ c .enum-told .given .1)
 
 returns : tie.Need-returns
 returns c =

@@ -10,7 +10,7 @@ use denote.Ref.{now}
 use lib.ListN.{length, getD, take, drop}
 use mir.Syntax.{w32}
 use Rattle.numbers.proofs.Local.{ranged, within}
-use Rattle.machine.specs.Words.{SLOW, WORDS}
+use Rattle.machine.specs.Words.{SLOW, RECORD_WORDS}
 use Rattle.machine.specs.Voices.{voiceAt}
 use Rattle.machine.proofs.Parts.{voice-length}
 use Rattle.machine.proofs.Valid.{Sound, sound, sound-voice}
@@ -56,7 +56,7 @@ add-requires c κs =
     (r .size, (sum-small _ r, (within tt (ranged w32 tt (t .ensures .small-left)), within tt (ranged w32 tt (t .ensures .small-right)))))
 
 -- and with what the turn adds, which is as long
-added-size : (c : tie.After-add) → length (c .add .last .0) ≡ WORDS
+added-size : (c : tie.After-add) → length (c .add .last .0) ≡ RECORD_WORDS
 added-size c = let t = c .before .before .before .before .before .before .turn in c .add .kept .0 ∙ put-back (c .before .before .before .before .before .before .before .before .before .before) (t .last .0) (t .result) (t .ensures) .size
 
 returns : tie.Need-returns
@@ -82,6 +82,7 @@ turn-spec =
     (λ c. omega (arith, whole (c .before .before) .size, c .before .before .pre .1 .0))
     turn-requires
     add-requires
+    (λ c. search needs)
     (λ c. search needs)
     (λ c. omega (arith, added-size (c .before .before .before), c .before .before .before .before .before .before .before .before .before .before .before .before .before .pre .1 .0))
     (λ c κs. (added-size (c .before .before .before .before), c .before .before .before .before .before .before .before .before .before .before .before .before .before .before .pre .1 .0))

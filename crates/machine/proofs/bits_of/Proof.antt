@@ -2,16 +2,16 @@
 use mathlib.Core.Path.{_≡_, sym}
 use borrow.Author.Needs.{needs}
 use borrow.Author.Tests.{lt-ltb, le-ltb}
-use Rattle.machine.specs.Words.{bitsOf, voiceBits, aboveBits}
+use Rattle.machine.specs.Words.{bitsOf, voiceBits, commonBits}
 use Rattle.machine.proofs.bits_of.Statement.{statement}
 use Rattle.machine.proofs.bits_of.Tie as tie
 
 returns : tie.Need-returns
-unfolding bitsOf voiceBits
+unfolding bitsOf
 returns c = simp (lt-ltb _ _ (c .if1 .taken))
 
 returns-2 : tie.Need-returns-2
-unfolding bitsOf aboveBits
+unfolding bitsOf commonBits
 returns-2 c = simp (le-ltb _ _ (c .if1 .left))
 
 pub bits-of-spec : {M : Type 1} → statement M

@@ -7,10 +7,10 @@ use native.Mathlib.Omega.{arith}
 use lib.ListN.{getD}
 use borrow.Author.Needs.{needs}
 use borrow.Author.Tests.{eq-eqb, ne-eqb, lt-ltb, le-ltb}
-use Rattle.answer.specs.declared.Answer.the-variants.{Done, RecordWord}
-use Rattle.machine.specs.Words.{voiceBits, aboveBits, isVector, IRQV}
+use Rattle.answer.specs.declared.Answer.the-variants.{Done, RecordInvalid}
+use Rattle.machine.specs.Words.{voiceBits, commonBits, isVector, IRQV}
 use Rattle.machine.specs.Kept.{gatheredKept, clear, Lanes}
-use Rattle.machine.specs.Calls.{checked}
+use Rattle.machine.specs.Check.{checked}
 use Rattle.machine.proofs.Kept.{four-lanes}
 use Rattle.machine.proofs.Valid.{words-test}
 use Rattle.machine.proofs.Answers.{check-size, check-stray, check-vector}
@@ -31,7 +31,6 @@ unfolding gatheredKept clear
 loop-holds c = (omega arith, record { four = refl; tell = refl })
 
 look-at-four-requires : tie.Need-look-at-four-requires Inv-loop μ-loop
-unfolding voiceBits
 look-at-four-requires c κs = (omega arith, (omega arith, (refl, c .before .before .before .loop .inv .1)))
 
 loop-again : tie.Need-loop-again Inv-loop μ-loop
@@ -40,7 +39,7 @@ loop-again c =
     (omega arith, rw e (c .look-at-four .ensures))
 
 look-at-rest-requires : tie.Need-look-at-rest-requires Inv-loop μ-loop
-unfolding aboveBits
+unfolding commonBits
 look-at-rest-requires c κs =
     let e : 4 * c .before .before .before .loop .g ≡ 16 = omega arith in
     (omega arith, (refl, rw e at (c .before .before .before .loop .inv .1)))
@@ -54,7 +53,7 @@ returns-2 c =
 -- past the lanes' test, the vector decides
 by-vector : (c : tie.Else2 Inv-loop μ-loop) (b : Bool)
     → isVector (getD (c .before .before .before .before .before .before .before .before .args .m .now) IRQV 0) ≡ b
-    → cond b Done RecordWord ≡ checked (c .before .before .before .before .before .before .before .before .args .m .now)
+    → cond b Done RecordInvalid ≡ checked (c .before .before .before .before .before .before .before .before .args .m .now)
 by-vector c b q =
     let e = c .before .before .before .before .before .before in
     let m = e .before .before .args .m .now in
@@ -91,6 +90,7 @@ check-spec =
     (λ c. search needs)
     (λ c. search needs)
     returns-2
+    (λ c. search needs)
     (λ c. search needs)
     returns-3
     returns-4

@@ -5,17 +5,17 @@ use native.Mathlib.Omega.{arith}
 use borrow.Author.Needs.{needs}
 use lib.ListN.{length, getD, length-set}
 use Rattle.numbers.proofs.Tests.{filled-on}
-use Rattle.machine.specs.Words.{WORDS}
-use Rattle.machine.specs.Calls.{resetWord}
+use Rattle.machine.specs.Words.{RECORD_WORDS}
+use Rattle.machine.specs.Reset.{resetWord}
 use Rattle.machine.proofs.Fresh.{is-fresh}
 use Rattle.machine.proofs.fill.Statement.{statement}
 use Rattle.machine.proofs.fill.Tie as tie
 
 abbrev Inv-loop : tie.InvT-loop
-Inv-loop m₀ i₀ m i = (length m ≡ WORDS) × ((length m₀ ≡ WORDS) × ((i ≤ WORDS) × ((k : ℕ) → k < i → getD m k 0 ≡ resetWord k)))
+Inv-loop m₀ i₀ m i = (length m ≡ RECORD_WORDS) × ((length m₀ ≡ RECORD_WORDS) × ((i ≤ RECORD_WORDS) × ((k : ℕ) → k < i → getD m k 0 ≡ resetWord k)))
 
 abbrev μ-loop : tie.MeasureT-loop
-μ-loop m₀ i₀ m i = WORDS - i
+μ-loop m₀ i₀ m i = RECORD_WORDS - i
 
 loop-holds : tie.Need-loop-holds Inv-loop μ-loop
 loop-holds c = (c .before .pre, (c .before .pre, (omega arith, λ k h. absurd (let z : ⊥ = omega arith in z))))

@@ -1,7 +1,5 @@
 -- `registers::acknowledge` meets its contract: a valid record's control register is a word of 16 bits, as `with_bit` asks.
 -- Assumes nothing.
-use Prim.Native.Nat.{_<_, _*_}
-use native.Mathlib.Nat.{add-zero}
 use native.Mathlib.Omega.{arith}
 use lib.ListN.{getD, length-set}
 use borrow.Author.Needs.{needs}
@@ -26,8 +24,7 @@ with-bit-requires : tie.Need-with-bit-requires
 with-bit-requires c κs =
     let s = c .before .before .before .before in
     let m = s .args .m .now in
-    let h : getD m (20 * getD m IRQV 0) 0 < 65536 = rw add-zero at (cr-lt m (fine s) (getD m IRQV 0) (c .before .if1 .taken)) in
-    (omega arith, (omega arith, h))
+    (omega arith, (omega arith, cr-lt m (fine s) (getD m IRQV 0) (c .before .if1 .taken)))
 
 slice-write-m : tie.Need-slice-write-m
 slice-write-m c = omega (arith, fine (c .before .before .before .before .before) .size)
@@ -37,7 +34,7 @@ slice-write-m-2 c = simp length-set (omega (arith, fine (c .before .before .befo
 
 returns : tie.Need-returns
 unfolding acknowledged
-returns c = rw (c .with-bit .ensures .0, lt-ltb _ _ (c .before .before .if1 .taken), add-zero)
+returns c = rw (c .with-bit .ensures .0, lt-ltb _ _ (c .before .before .if1 .taken))
 
 returns-2 : tie.Need-returns-2
 unfolding acknowledged
@@ -48,6 +45,7 @@ acknowledge-spec =
     tie.close
     (tie.spec
     slice-read-voice
+    (λ c. search needs)
     (λ c. search needs)
     (λ c. search needs)
     (λ c. search needs)

@@ -6,7 +6,7 @@ use Rattle.answer.specs.Answer.{isDone}
 use Rattle.answer.specs.declared.Answer.the-variants.{Done}
 use Rattle.answer.proofs.Refusals.{is-refusal}
 use Rattle.machine.proofs.Valid.{is-valid}
-use Rattle.registers.specs.Calls.{byteAnswer}
+use Rattle.registers.specs.Access.{byteAnswer}
 use Rattle.registers.proofs.Laws.{byte-done, reads-refused, reads-done}
 use Rattle.registers.proofs.read.Statement.{statement}
 use Rattle.registers.proofs.read.Tie as tie

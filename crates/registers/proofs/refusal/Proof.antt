@@ -1,16 +1,17 @@
 -- `registers::refusal` meets its contract: the record refused, the address refused, and neither. Assumes nothing.
 use mathlib.Core.Path.{_≡_, sym, _∙_}
 use borrow.Author.Needs.{needs}
-use Rattle.answer.specs.declared.Answer.the-variants.{Done, Address}
+use Rattle.answer.specs.declared.Answer.the-variants.{Address}
 use Rattle.answer.proofs.Refusals.{is-refusal}
-use Rattle.machine.specs.Calls.{checked}
-use Rattle.registers.specs.Calls.{byteAnswer}
+use Rattle.machine.proofs.Valid.{Sound}
+use Rattle.machine.proofs.Answers.{not-refused}
+use Rattle.registers.specs.Access.{byteAnswer}
 use Rattle.registers.proofs.Laws.{asked-bad, asked-far, asked-done}
 use Rattle.registers.proofs.refusal.Statement.{statement}
 use Rattle.registers.proofs.refusal.Tie as tie
 
-fine : (c : tie.After-enum-told) → checked (c .before .before .before .before .args .m .now) ≡ Done
-fine c = sym (c .before .before .check .ensures) ∙ c .enum-told .given .1
+fine : (c : tie.After-enum-told) → Sound (c .before .before .before .before .args .m .now)
+fine c = not-refused _ (sym (c .before .before .check .ensures) ∙ c .enum-told .given .1)
 
 returns : tie.Need-returns
 unfolding byteAnswer

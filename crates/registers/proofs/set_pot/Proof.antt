@@ -2,17 +2,17 @@
 use mathlib.Core.Path.{_≡_, refl, sym, _∙_}
 use native.Mathlib.Omega.{arith}
 use borrow.Author.Needs.{needs}
-use Rattle.answer.specs.declared.Answer.the-variants.{Done, Pot}
+use Rattle.answer.specs.declared.Answer.the-variants.{Pot}
 use Rattle.answer.proofs.Refusals.{is-refusal}
-use Rattle.machine.specs.Calls.{checked}
+use Rattle.machine.proofs.Valid.{Sound}
 use Rattle.machine.proofs.Answers.{not-refused}
-use Rattle.registers.specs.Calls.{potAnswer}
+use Rattle.registers.specs.Access.{potAnswer}
 use Rattle.registers.proofs.Laws.{asked-bad, asked-far, asked-done, pot-refused, pot-done}
 use Rattle.registers.proofs.set_pot.Statement.{statement}
 use Rattle.registers.proofs.set_pot.Tie as tie
 
-fine : (c : tie.After-enum-told) → checked (c .before .before .before .before .before .args .m .now) ≡ Done
-fine c = sym (c .before .before .check .ensures) ∙ c .enum-told .given .1
+fine : (c : tie.After-enum-told) → Sound (c .before .before .before .before .before .args .m .now)
+fine c = not-refused _ (sym (c .before .before .check .ensures) ∙ c .enum-told .given .1)
 
 returns : tie.Need-returns
 unfolding potAnswer
@@ -29,7 +29,7 @@ returns-2 c =
     pot-refused (a .m .now) (a .value) Pot (asked-far (a .m .now) 1023 (a .value) Pot (fine (c .before)) (c .if1 .taken)) refl
 
 slice-write-m : tie.Need-slice-write-m
-slice-write-m c = omega (arith, not-refused _ (fine (c .before)) .size)
+slice-write-m c = omega (arith, fine (c .before) .size)
 
 returns-3 : tie.Need-returns-3
 unfolding potAnswer

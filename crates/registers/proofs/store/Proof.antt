@@ -4,16 +4,16 @@ use mathlib.Core.Path.{subst}
 use Prim.Native.Nat.{_<_}
 use native.Mathlib.Omega.{arith}
 use borrow.Author.Needs.{needs}
-use Rattle.machine.specs.Words.{cut, WORDS}
+use Rattle.machine.specs.Words.{cut, RECORD_WORDS}
 use Rattle.registers.specs.Registers.{stored}
 use Rattle.registers.specs.Inside.{Inside}
 use Rattle.registers.proofs.store.Statement.{statement}
 use Rattle.registers.proofs.store.Tie as tie
 
-within : (c : tie.After-register) → c .register .given .0 .0 < WORDS
+within : (c : tie.After-register) → c .register .given .0 .0 < RECORD_WORDS
 within c = subst Inside (c .register .given .1) (c .before .before .before .pre .1) .0
 
-within-2 : (c : tie.After-register2) → c .register2 .given .0 .0 < WORDS
+within-2 : (c : tie.After-register2) → c .register2 .given .0 .0 < RECORD_WORDS
 within-2 c = subst Inside (c .register2 .given .1) (c .before .before .before .pre .1) .0
 
 bits-of-requires : tie.Need-bits-of-requires

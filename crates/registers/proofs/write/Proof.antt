@@ -5,7 +5,7 @@ use borrow.Author.Needs.{needs}
 use Rattle.answer.specs.Answer.{isDone}
 use Rattle.answer.specs.declared.Answer.the-variants.{Done}
 use Rattle.answer.proofs.Refusals.{is-refusal}
-use Rattle.registers.specs.Calls.{byteAnswer}
+use Rattle.registers.specs.Access.{byteAnswer}
 use Rattle.registers.proofs.Laws.{byte-done, writes-refused, writes-done}
 use Rattle.registers.proofs.write.Statement.{statement}
 use Rattle.registers.proofs.write.Tie as tie

@@ -10,7 +10,7 @@ use mir.Syntax.{w32}
 use Rattle.numbers.specs.Numbers.{floorDiv, Bits}
 use Rattle.numbers.proofs.Words.{floor-shared}
 use Rattle.numbers.proofs.Local.{held, nat, lit, sub, mul, shr, add, share6}
-use Rattle.sample.specs.Sample.{between}
+use Rattle.sample.specs.Sample.{interpolated}
 use Rattle.sample.proofs.Laws.{between-bits}
 use Rattle.sample.proofs.blend.Statement.{statement}
 use Rattle.sample.proofs.blend.Tie as tie
@@ -21,7 +21,7 @@ four-less f d =
     ap (λ (z : ℤ). floorDiv z 512) (*ℤ-comm (pos (4 * f)) d ∙ ap (λ (n : ℕ). d *ℤ pos n) e) ∙ floor-shared d f 4 128 (lit< tt) ∙ ap (λ (z : ℤ). floorDiv z 128) (*ℤ-comm d (pos f))
 
 returns : tie.Need-returns
-unfolding between
+unfolding interpolated
 returns c =
     let x = held w32 tt (c .pre .1 .0) in
     let f = mul (lit (pos 4)) (nat w32 511 (c .args .f) tt (omega arith)) tt in

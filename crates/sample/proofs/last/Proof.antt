@@ -18,4 +18,4 @@ unfolding lastOf
 returns-3 c = omega arith
 
 pub last-spec : {M : Type 1} → statement M
-last-spec = tie.close (tie.spec (λ c. search needs) (λ c. search needs) (λ c. search needs) (λ c. search needs) returns returns-2 returns-3)
+last-spec = tie.close (tie.spec (λ c. search needs) (λ c. search needs) (λ c. search needs) (λ c. search needs) (λ c. search needs) returns returns-2 returns-3)

@@ -7,7 +7,7 @@ use native.Mathlib.Omega.{arith}
 use borrow.Author.Needs.{needs}
 use lib.ListN.{length, getD, set, length-set}
 use lib.Seq.{getD-set-same, getD-set-other}
-use Rattle.score.specs.Score.{wordOf, Filled}
+use Rattle.score.specs.Score.{twoBytes, Filled}
 use Rattle.score.proofs.fill.Statement.{statement}
 use Rattle.score.proofs.fill.Tie as tie
 
@@ -18,10 +18,10 @@ abbrev μ-loop : tie.MeasureT-loop
 μ-loop memory₀ score i₀ i-end memory i = i-end - i
 
 -- one word more
-next : (score memory : List ℕ) (i x : ℕ) → i < length memory → x ≡ wordOf (getD score (2 * i) 0) (getD score (2 * i + 1) 0) → Filled i score memory → Filled (i + 1) score (set memory i x)
+next : (score memory : List ℕ) (i x : ℕ) → i < length memory → x ≡ twoBytes (getD score (2 * i) 0) (getD score (2 * i + 1) 0) → Filled i score memory → Filled (i + 1) score (set memory i x)
 next score memory i x h e f k l = at (ℕ-discrete k i)
   where
-    at : Dec (k ≡ i) → getD (set memory i x) k 0 ≡ wordOf (getD score (2 * k) 0) (getD score (2 * k + 1) 0)
+    at : Dec (k ≡ i) → getD (set memory i x) k 0 ≡ twoBytes (getD score (2 * k) 0) (getD score (2 * k + 1) 0)
     at (yes q) = rw q (getD-set-same memory i x 0 h ∙ e)
     at (no q) = getD-set-other memory i k x 0 q ∙ f k (omega arith)
 
@@ -32,8 +32,8 @@ loop-again : tie.Need-loop-again Inv-loop μ-loop
 loop-again c =
     let l = c .before .before .before .before .loop in
     let score = c .before .before .before .before .before .before .before .args .score .now in
-    let filled = next score (l .memory) (l .i) (c .word .result) (omega arith) (c .word .ensures) (l .inv .3) in
-    (refl, length-set (l .memory) (l .i) (c .word .result) ∙ l .inv .1, omega arith, filled)
+    let filled = next score (l .memory) (l .i) (c .two-bytes .result) (omega arith) (c .two-bytes .ensures) (l .inv .3) in
+    (refl, length-set (l .memory) (l .i) (c .two-bytes .result) ∙ l .inv .1, omega arith, filled)
 
 returns : tie.Need-returns Inv-loop μ-loop
 returns c k h = c .before .loop .inv .3 k (omega arith)

@@ -1,4 +1,4 @@
--- `registers::open` meets its contract: each arm is the definition's case, and a register in the read latch leaves the record valid, as
+-- `registers::load` meets its contract: each arm is the definition's case, and a register in the read latch leaves the record valid, as
 -- `acknowledge` asks. Assumes nothing.
 use mathlib.Core.Path.{subst, _∙_}
 use Prim.Native.Nat.{_<_}
@@ -6,18 +6,18 @@ use native.Mathlib.Omega.{arith}
 use lib.ListN.{length-set}
 use borrow.Author.Needs.{needs}
 use Rattle.machine.proofs.Valid.{Sound, sound, is-valid}
-use Rattle.machine.specs.Words.{WORDS}
+use Rattle.machine.specs.Words.{RECORD_WORDS}
 use Rattle.registers.specs.declared.Register.the-variants.{Vector}
-use Rattle.registers.specs.Registers.{readAs, touched}
+use Rattle.registers.specs.Registers.{readAs, sideEffect}
 use Rattle.registers.specs.Inside.{Inside}
 use Rattle.registers.proofs.Valid.{latched}
-use Rattle.registers.proofs.open.Statement.{statement}
-use Rattle.registers.proofs.open.Tie as tie
+use Rattle.registers.proofs.load.Statement.{statement}
+use Rattle.registers.proofs.load.Tie as tie
 
 fine : (c : tie.Start) → Sound (c .args .m .now)
 fine c = sound (c .args .m .now) (c .pre .0)
 
-within : (c : tie.After-register) → c .register .given .0 .0 < WORDS
+within : (c : tie.After-register) → c .register .given .0 .0 < RECORD_WORDS
 within c = subst Inside (c .register .given .1) (c .before .before .before .pre .1) .0
 
 mul-m : tie.Need-mul-m
@@ -57,30 +57,30 @@ slice-write-m-6 : tie.Need-slice-write-m-6
 slice-write-m-6 c = omega (arith, fine (c .before .before .before) .size)
 
 returns : tie.Need-returns
-unfolding readAs touched
+unfolding readAs sideEffect
 returns c = rw (c .before .before .register .given .1)
 
 returns-2 : tie.Need-returns-2
-unfolding readAs touched
+unfolding readAs sideEffect
 returns-2 c = rw (c .enum-told .given .1)
 
 returns-3 : tie.Need-returns-3
-unfolding readAs touched
+unfolding readAs sideEffect
 returns-3 c = rw (c .before .enum-told2 .given .1)
 
 same-length-4 : tie.Need-same-length-4
 same-length-4 c = c .before .before .acknowledge .kept .0 ∙ simp length-set
 
 returns-4 : tie.Need-returns-4
-unfolding readAs touched
+unfolding readAs sideEffect
 returns-4 c = rw (c .before .before .before .before .before .enum-told3 .given .1) (c .before .before .acknowledge .ensures)
 
 returns-5 : tie.Need-returns-5
-unfolding readAs touched
+unfolding readAs sideEffect
 returns-5 c = rw (c .enum-told4 .given .1)
 
-pub open-spec : {M : Type 1} → statement M
-open-spec =
+pub load-spec : {M : Type 1} → statement M
+load-spec =
     tie.close
     (tie.spec
     (λ c. search needs)

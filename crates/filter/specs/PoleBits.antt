@@ -2,8 +2,8 @@
 use Rattle.numbers.specs.Numbers.{Bits}
 use Rattle.filter.specs.declared.Poles.{Poles}
 
-pub record Outputs (p : Poles) : Type 0 where
-  pub first : Bits 18 (p .o1)
-  pub second : Bits 18 (p .o2)
-  pub third : Bits 18 (p .o3)
-  pub fourth : Bits 18 (p .o4)
+pub record PoleBits (p : Poles) : Type 0 where
+  pub o1 : Bits 18 (p .o1)
+  pub o2 : Bits 18 (p .o2)
+  pub o3 : Bits 18 (p .o3)
+  pub o4 : Bits 18 (p .o4)

@@ -3,26 +3,26 @@
 use mathlib.Core.Path.{_≡_}
 use Prim.Native.Nat.{ℕ, _/_, _%_}
 use mathlib.Core.Bool.{cond}
-use mathlib.Core.List.{List}
+use mathlib.Core.List.{List, [], _∷_}
 use lib.Dec.{ltb}
 use lib.ListN.{getD, set}
-use Rattle.answer.specs.Answer.{isDone, refuse, first}
+use Rattle.answer.specs.Answer.{isDone, firstRefusal}
 use Rattle.answer.specs.declared.Answer.{Answer}
-use Rattle.answer.specs.declared.Answer.the-variants.{Address, Pot}
+use Rattle.answer.specs.declared.Answer.the-variants.{RecordLength, RecordInvalid, Address, Pot}
 use Rattle.machine.specs.Words.{PAR, READ}
-use Rattle.machine.specs.Calls.{checked}
-use Rattle.registers.specs.Registers.{byteOf, written, opened}
+use Rattle.machine.specs.Check.{wrongLength, notValid}
+use Rattle.registers.specs.Registers.{byteOf, byteWritten, byteRead}
 
 -- ---- write and read
 
 unfoldable pub byteAnswer : List ℕ → ℕ → Answer
-byteAnswer m a = first (checked m) (refuse (ltb 63 a) Address)
+byteAnswer m a = firstRefusal ((wrongLength m, RecordLength) ∷ (notValid m, RecordInvalid) ∷ (ltb 63 a, Address) ∷ [])
 
 unfoldable pub writeRecord : List ℕ → ℕ → ℕ → List ℕ
-writeRecord m a b = cond (isDone (byteAnswer m a)) (written m (a / 4) (a % 4) b) m
+writeRecord m a b = cond (isDone (byteAnswer m a)) (byteWritten m (a / 4) (a % 4) b) m
 
 unfoldable pub readRecord : List ℕ → ℕ → List ℕ
-readRecord m a = cond (isDone (byteAnswer m a)) (opened m (a / 4) (a % 4)) m
+readRecord m a = cond (isDone (byteAnswer m a)) (byteRead m (a / 4) (a % 4)) m
 
 -- the byte of the read latch; 0 in a refusal
 unfoldable pub readByte : List ℕ → ℕ → ℕ
@@ -41,7 +41,7 @@ pub record Reads (m : List ℕ) (a : ℕ) (answer : Answer) (byte : ℕ) (after 
 -- ---- the pot result
 
 unfoldable pub potAnswer : List ℕ → ℕ → Answer
-potAnswer m p = first (checked m) (refuse (ltb 1023 p) Pot)
+potAnswer m p = firstRefusal ((wrongLength m, RecordLength) ∷ (notValid m, RecordInvalid) ∷ (ltb 1023 p, Pot) ∷ [])
 
 unfoldable pub potRecord : List ℕ → ℕ → List ℕ
 potRecord m p = cond (isDone (potAnswer m p)) (set m PAR p) m

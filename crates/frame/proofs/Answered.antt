@@ -1,0 +1,61 @@
+-- The frame call by its answer: each refusal, and done; what a frame that is not refused was lent; tightness. Assumes nothing.
+use mathlib.Core.Path.{_≡_, refl, sym, ap, _∙_}
+use mathlib.Core.Bool.{Bool, true, false, not}
+use mathlib.Core.List.{List, [], _∷_}
+use Prim.Native.Nat.{ℕ, _<_, _≤_}
+use borrow.Author.Tests.{eq-eqb, ne-eqb, lt-ltb, le-ltb, eqb-true, ltb-false, not-false}
+use lib.Dec.{eqb, ltb}
+use lib.IntN.{ℤ}
+use lib.ListN.{length}
+use Rattle.answer.specs.Answer.{isDone}
+use Rattle.answer.specs.declared.Answer.{Answer}
+use Rattle.answer.specs.declared.Answer.the-variants.{Done, RecordLength, RecordInvalid, MemoryLength, OutputLength}
+use Rattle.answer.proofs.Refusals.{none-holds, refused-early}
+use Rattle.machine.specs.Words.{OUTPUT_VALUES}
+use Rattle.machine.specs.Check.{wrongLength, notValid, checked}
+use Rattle.machine.proofs.Valid.{Sound}
+use Rattle.machine.proofs.Answers.{sound-tests, tests-sound}
+use Rattle.sample.specs.Sample.{MOST_MEMORY_WORDS}
+use Rattle.frame.specs.Frame.{played, closed, heard, frameAnswer, frameRecord, frameOutput, Frames}
+
+module _ (m memory : List ℕ) (out : List ℤ) where
+  -- the tests of the memory and the output, which come after those of the record
+  abbrev later : List (Bool × Answer)
+  later = (ltb MOST_MEMORY_WORDS (length memory), MemoryLength) ∷ (not (eqb (length out) OUTPUT_VALUES), OutputLength) ∷ []
+
+  pub refused-record : isDone (checked m) ≡ false → frameAnswer m memory out ≡ checked m
+  unfolding frameAnswer checked
+  refused-record h = refused-early ((wrongLength m, RecordLength) ∷ (notValid m, RecordInvalid) ∷ []) later h
+
+  pub refused-memory : Sound m → MOST_MEMORY_WORDS < length memory → frameAnswer m memory out ≡ MemoryLength
+  unfolding frameAnswer
+  refused-memory s k = let t = sound-tests m s in rw (t .0, t .1, lt-ltb MOST_MEMORY_WORDS (length memory) k)
+
+  pub refused-output : Sound m → length memory ≤ MOST_MEMORY_WORDS → (length out ≡ OUTPUT_VALUES → ⊥) → frameAnswer m memory out ≡ OutputLength
+  unfolding frameAnswer
+  refused-output s k l = let t = sound-tests m s in rw (t .0, t .1, le-ltb MOST_MEMORY_WORDS (length memory) k, ne-eqb (length out) OUTPUT_VALUES l)
+
+  pub not-refused-frame : Sound m → length memory ≤ MOST_MEMORY_WORDS → length out ≡ OUTPUT_VALUES → frameAnswer m memory out ≡ Done
+  unfolding frameAnswer
+  not-refused-frame s k l = let t = sound-tests m s in rw (t .0, t .1, le-ltb MOST_MEMORY_WORDS (length memory) k, eq-eqb (length out) OUTPUT_VALUES l)
+
+  -- and back: the frame is done, so no test held
+  pub done-frame : frameAnswer m memory out ≡ Done → Sound m × ((length memory ≤ MOST_MEMORY_WORDS) × (length out ≡ OUTPUT_VALUES))
+  unfolding frameAnswer
+  done-frame e =
+      let n = none-holds ((wrongLength m, RecordLength) ∷ (notValid m, RecordInvalid) ∷ later) (refl, (refl, (refl, (refl, tt)))) (ap isDone e) in (
+        tests-sound m (n .1 .0),
+        (ltb-false MOST_MEMORY_WORDS (length memory) (n .1 .1 .0), eqb-true (length out) OUTPUT_VALUES (not-false (eqb (length out) OUTPUT_VALUES) (n .1 .1 .1 .0))),
+      )
+
+  pub frames-refused : (a : Answer) → a ≡ frameAnswer m memory out → isDone a ≡ false → Frames m memory out a m out
+  unfolding frameRecord frameOutput
+  frames-refused a e h = let d : isDone (frameAnswer m memory out) ≡ false = sym (ap isDone e) ∙ h in record { answers = e; leaves = rw d; gives = rw d }
+
+  pub frames-done : (after : List ℕ) (sound : List ℤ) → frameAnswer m memory out ≡ Done → after ≡ closed (played memory m) → sound ≡ heard (played memory m) → Frames m memory out Done after sound
+  unfolding frameRecord frameOutput
+  frames-done after sound e p q = record { answers = sym e; leaves = rw e p; gives = rw e q }
+
+-- two outcomes that the promise allows are equal
+pub one-frame : {m memory : List ℕ} {out : List ℤ} {a b : Answer} {x y : List ℕ} {s t : List ℤ} → Frames m memory out a x s → Frames m memory out b y t → (a ≡ b) × ((x ≡ y) × (s ≡ t))
+one-frame p q = (p .answers ∙ sym (q .answers), (p .leaves ∙ sym (q .leaves), p .gives ∙ sym (q .gives)))

@@ -1,0 +1,21 @@
+-- What every call asks of the record that it is lent: its length, and then its validity. Assumes nothing.
+use Prim.Native.Nat.{ℕ}
+use mathlib.Core.Bool.{Bool, not}
+use mathlib.Core.List.{List, [], _∷_}
+use lib.Dec.{eqb}
+use lib.ListN.{length}
+use Rattle.answer.specs.Answer.{firstRefusal}
+use Rattle.answer.specs.declared.Answer.{Answer}
+use Rattle.answer.specs.declared.Answer.the-variants.{RecordLength, RecordInvalid}
+use Rattle.machine.specs.Words.{RECORD_WORDS, valid}
+
+-- the two tests
+abbrev pub wrongLength : List ℕ → Bool
+wrongLength m = not (eqb (length m) RECORD_WORDS)
+
+abbrev pub notValid : List ℕ → Bool
+notValid m = not (valid m)
+
+-- what the check answers, which every call but a reset begins with
+unfoldable pub checked : List ℕ → Answer
+checked m = firstRefusal ((wrongLength m, RecordLength) ∷ (notValid m, RecordInvalid) ∷ [])
