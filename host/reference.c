@@ -229,7 +229,7 @@ static uint32_t word_of_register(uint32_t page, uint32_t number)
         return word_of_upper(page, number);
     }
     /* Channel sums, and one empty place. */
-    return number <= 11 ? WORD_CHANNEL + number : NO_WORD;
+    return number <= 11 ? WORD_SUMS + number : NO_WORD;
 }
 
 /* Byte 0 is the highest of the four. */
@@ -284,7 +284,7 @@ uint32_t reference_write(uint32_t *record, size_t words, uint32_t address,
 static void take_register(uint32_t *record, uint32_t word)
 {
     /* The channels and the empty place show as 0. */
-    if (word == NO_WORD || word >= WORD_CHANNEL) {
+    if (word == NO_WORD || word >= WORD_SUMS) {
         record[WORD_READ_LATCH] = 0;
     } else {
         record[WORD_READ_LATCH] = record[word];
@@ -477,7 +477,7 @@ static void add_volume(const uint32_t *old, uint32_t *record, int64_t o4)
     if (channel > 5) {
         return;
     }
-    sums = record + WORD_CHANNEL + 2 * channel;
+    sums = record + WORD_SUMS + 2 * channel;
     sums[0] = reference_add_to_sum(sums[0],
                                    reference_volume(o, old[VOICE_LVOL]));
     sums[1] = reference_add_to_sum(sums[1],
@@ -624,7 +624,7 @@ uint32_t reference_frame(uint32_t *record, size_t words,
     if (answer != ANSWER_DONE) {
         return answer;
     }
-    if (memory_words > MEMORY_LIMIT) {
+    if (memory_words > MOST_MEMORY_WORDS) {
         return ANSWER_MEMORY_LENGTH;
     }
     if (output_values != OUTPUT_VALUES) {
@@ -638,8 +638,8 @@ uint32_t reference_frame(uint32_t *record, size_t words,
 
     /* The sums go out, held to 20 bits, and start again from 0. */
     for (place = 0; place < OUTPUT_VALUES; place++) {
-        output[place] = reference_output_value(record[WORD_CHANNEL + place]);
-        record[WORD_CHANNEL + place] = 0;
+        output[place] = reference_output_value(record[WORD_SUMS + place]);
+        record[WORD_SUMS + place] = 0;
     }
 
     record[WORD_SLOW] = (record[WORD_SLOW] + 1) % 8;

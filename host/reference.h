@@ -28,7 +28,7 @@
 #define VOICE_WORDS   20u
 #define OUTPUT_VALUES 12u
 #define BANK_WORDS    2097152u
-#define MEMORY_LIMIT  8388608u
+#define MOST_MEMORY_WORDS  8388608u
 #define ADDRESS_LIMIT 63u
 #define POT_LIMIT     1023u
 #define NO_INTERRUPT  128u
@@ -69,7 +69,7 @@
 #define WORD_SLOW        648u
 #define WORD_WRITE_LATCH 649u
 #define WORD_READ_LATCH  650u
-#define WORD_CHANNEL     651u /* 0L, 0R, 1L, 1R .. 5L, 5R */
+#define WORD_SUMS     651u /* 0L, 0R, 1L, 1R .. 5L, 5R */
 
 /* ---- bits of CR ---------------------------------------------------------- */
 

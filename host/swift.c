@@ -66,9 +66,9 @@ static UNFOLD four gather(const uint32_t *words)
 static UNFOLD four stray_bits(const uint32_t *record)
 {
     const uint32_t *shared = record + WORD_PAGE;
-    const uint32_t *sums = record + WORD_CHANNEL;
+    const uint32_t *sums = record + WORD_SUMS;
     four stray = (four_at(sums) | four_at(sums + 4) | four_at(sums + 8)) &
-                 four_at(shared_stray + WORD_CHANNEL - WORD_PAGE);
+                 four_at(shared_stray + WORD_SUMS - WORD_PAGE);
 
     stray |= gather(record) & four_at(voice_stray);
     stray |= gather(record + 4) & four_at(voice_stray + 4);
@@ -132,7 +132,7 @@ static uint32_t word_of(uint32_t page, uint32_t number)
                : number < 10 ? first + 10 + number
                              : WORD_W_ST - 10 + number;
     }
-    return WORD_CHANNEL + number; /* number 12 is RECORD_WORDS */
+    return WORD_SUMS + number; /* number 12 is RECORD_WORDS */
 }
 
 static uint32_t write(uint32_t *record, size_t words, uint32_t address,
@@ -167,7 +167,7 @@ static uint32_t write(uint32_t *record, size_t words, uint32_t address,
 
 static void open_register(uint32_t *record, uint32_t word)
 {
-    record[WORD_READ_LATCH] = word < WORD_CHANNEL ? record[word] : 0;
+    record[WORD_READ_LATCH] = word < WORD_SUMS ? record[word] : 0;
     if (word == WORD_PAR) {
         record[WORD_PAR] = 1023;
     } else if (word == WORD_IRQV && record[WORD_IRQV] < VOICES) {
@@ -437,7 +437,7 @@ static void run(uint32_t *record, uint32_t *voice, uint32_t cr, uint32_t slow,
     uint32_t channel = cr >> 10 & 7;
 
     if (channel < 6) {
-        uint32_t *sums = record + WORD_CHANNEL + 2 * channel;
+        uint32_t *sums = record + WORD_SUMS + 2 * channel;
 
         add(&sums[0], o, voice[VOICE_LVOL]);
         add(&sums[1], o, voice[VOICE_RVOL]);
@@ -474,10 +474,10 @@ static void close_frame(uint32_t *record, int32_t *output)
 
     for (size_t place = 0; place < OUTPUT_VALUES; place++) {
         held[place] =
-            hold(number(record[WORD_CHANNEL + place], 23), -524288, 524287);
+            hold(number(record[WORD_SUMS + place], 23), -524288, 524287);
     }
     memcpy(output, held, sizeof held);
-    memset(record + WORD_CHANNEL, 0, sizeof held);
+    memset(record + WORD_SUMS, 0, sizeof held);
     record[WORD_SLOW] = (record[WORD_SLOW] + 1) & 7;
 }
 
@@ -493,7 +493,7 @@ static uint32_t frame(uint32_t *record, size_t words, const uint16_t *memory,
     if (answer != ANSWER_DONE) {
         return answer;
     }
-    if (memory_words > MEMORY_LIMIT) {
+    if (memory_words > MOST_MEMORY_WORDS) {
         return ANSWER_MEMORY_LENGTH;
     }
     if (output_values != OUTPUT_VALUES) {

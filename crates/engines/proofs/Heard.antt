@@ -19,7 +19,7 @@ use Rattle.sample.specs.Sample.{firstAt, secondAt, sampleOf, fetched, fraction,
 use Rattle.voice.specs.Turn.{lastOutputs, rampedLevels, withOutputs, moved, stoppedTurn, sampled, runningTurn, turnOf}
 use Rattle.answer.specs.declared.Answer.{Answer}
 use Rattle.answer.specs.declared.Answer.the-variants.{Done}
-use Rattle.machine.specs.Words.{ACCUM, voiceWord, voiceBits, commonBits, bitsOf, cut, cutTo, isVector, valid}
+use Rattle.machine.specs.Words.{ACCUM, voiceWord, voiceBits, sharedBits, bitsOf, cut, cutTo, isVector, valid}
 use Rattle.machine.specs.Voices.{voiceAt, putVoice}
 use Rattle.machine.specs.Check.{checked}
 use Rattle.machine.specs.Reset.{resetAnswer, resetWord, wordsFrom, fresh}
@@ -53,7 +53,7 @@ playing v (w ∷ ws) = putVoice (playing (suc v) ws) v w
 
 -- what a frame answers, leaves and puts out; all that it computes by is named here, once
 unfoldable pub framed : List ℕ → Answer × (List ℕ × List ℤ)
-unfolding floorDiv floorMod signed word held bitOf flagOf withBit runs lowPass highPass coefficient pole3 pole4 filtered mantissa exponent volumeOf panned mixed putOut increment ramped slowRamped raised forwardEvent forward stepped firstAt secondAt sampleOf fetched fraction interpolated lastOutputs rampedLevels withOutputs moved stoppedTurn sampled runningTurn turnOf commonBits bitsOf cut cutTo isVector valid voiceAt putVoice resetAnswer checked resetWord wordsFrom fresh wordsOf addedTo added signalled turnAt turns heard silenced closed played frameAnswer frameRecord frameOutput
+unfolding floorDiv floorMod signed word held bitOf flagOf withBit runs lowPass highPass coefficient pole3 pole4 filtered mantissa exponent volumeOf panned mixed putOut increment ramped slowRamped raised forwardEvent forward stepped firstAt secondAt sampleOf fetched fraction interpolated lastOutputs rampedLevels withOutputs moved stoppedTurn sampled runningTurn turnOf sharedBits bitsOf cut cutTo isVector valid voiceAt putVoice resetAnswer checked resetWord wordsFrom fresh wordsOf addedTo added signalled turnAt turns heard silenced closed played frameAnswer frameRecord frameOutput
 framed m = (frameAnswer m memory silence, (frameRecord m memory silence, frameOutput m memory silence))
 
 abbrev left : List (List ℕ) → ℤ

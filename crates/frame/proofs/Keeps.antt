@@ -1,4 +1,4 @@
--- A turn keeps a valid record valid, and leaves what is not its own: the other voices, and the words above but the sums and the vector.
+-- A turn keeps a valid record valid, and leaves what is not its own: the other voices, and the shared words but the sums and the vector.
 -- In order: the ranges of a valid record's voices; a voice's words after a turn; a sum; the interrupt step; the turn; the turns; the
 -- closing. Assumes nothing.
 use mathlib.Core.Path.{_≡_, refl, subst, _∙_}
@@ -17,7 +17,7 @@ use Rattle.numbers.proofs.Tests.{either, all, all-at}
 use Rattle.control.specs.Control.{flagOf, channelOf, IRQ}
 use Rattle.channel.specs.Channel.{mixed}
 use Rattle.channel.proofs.Laws.{mixed-is}
-use Rattle.machine.specs.Words.{voiceBits, commonBits, bitsOf, cut, isVector, ACTV, IRQV, SLOW, SUMS}
+use Rattle.machine.specs.Words.{voiceBits, sharedBits, bitsOf, cut, isVector, ACTV, IRQV, SLOW, SUMS}
 use Rattle.machine.specs.Voices.{voiceAt}
 use Rattle.machine.proofs.Valid.{Sound, sound-set, sound-put, sound-voice, word-le}
 use Rattle.voice.specs.Turn.{turnOf}
@@ -161,7 +161,7 @@ sum-bits : ℕ → Bool
 sum-bits c = eqb (bitsOf (SUMS + c)) 8388607
 
 all-sum-bits : T (all sum-bits 12)
-unfolding sum-bits bitsOf commonBits
+unfolding sum-bits bitsOf sharedBits
 all-sum-bits = tt
 
 bits-sum : (c : ℕ) → c < 12 → bitsOf (SUMS + c) ≡ 8388607
@@ -190,7 +190,7 @@ sound-added {m} c left right s = either Sound (ltb c 6) _ _
     (λ t. s)
 
 pub sound-signalled : {m : List ℕ} (v CR : ℕ) → Sound m → v < 32 → Sound (signalled m v CR)
-unfolding signalled cut bitsOf commonBits
+unfolding signalled cut bitsOf sharedBits
 sound-signalled {m} v CR s h = either Sound (flagOf IRQ CR && eqb (getD m IRQV 0) 128) _ _
     (λ t. sound-set IRQV v s (lit< tt) (small-cut 8 v (omega arith)) (λ e. is-vector v h))
     (λ t. s)
@@ -214,7 +214,7 @@ sound-turns memory (suc n) {m} s h = sound-turn memory n (sound-turns memory n s
 -- ---- a whole frame's turns
 
 pub active-le : (m : List ℕ) → Sound m → getD m ACTV 0 ≤ 31
-unfolding bitsOf commonBits
+unfolding bitsOf sharedBits
 active-le m s = word-le m s ACTV (lit< tt)
 
 pub sound-played : (memory : List ℕ) {m : List ℕ} → Sound m → Sound (played memory m)

@@ -20,9 +20,9 @@ use Rattle.numbers.proofs.Tests.{either, cases}
 use Rattle.control.specs.Control.{flagOf, channelOf, IRQ}
 use Rattle.channel.specs.Channel.{mixed, putOut}
 use Rattle.channel.proofs.Laws.{mixed-is}
-use Rattle.machine.specs.Words.{PAGE, IRQV, ACTV, SLOW, SUMS, bitsOf, commonBits, cut, RECORD_WORDS}
+use Rattle.machine.specs.Words.{PAGE, IRQV, ACTV, SLOW, SUMS, bitsOf, sharedBits, cut, RECORD_WORDS}
 use Rattle.machine.specs.Voices.{voiceAt, putVoice}
-use Rattle.machine.proofs.Parts.{voice-set-above, voice-same, put-length, put-same, put-other, put-out}
+use Rattle.machine.proofs.Parts.{voice-set-shared, voice-same, put-length, put-same, put-other, put-out}
 use Rattle.machine.proofs.Valid.{Sound, sound-set, sound-put, sound-voice}
 use Rattle.voice.specs.Turn.{turnOf}
 use Rattle.voice.specs.Voice.{voiceOf, wordsOf}
@@ -53,11 +53,11 @@ module _ (m : List ℕ) (v CR : ℕ) where
   signalled-voice : (u : ℕ) → length m ≡ RECORD_WORDS → u < 32 → voiceAt (signalled m v CR) u ≡ voiceAt m u
   unfolding signalled
   signalled-voice u l h = either (λ r. voiceAt r u ≡ voiceAt m u) (flagOf IRQ CR && eqb (getD m IRQV 0) 128) (set m IRQV v) m
-      (λ _. voice-set-above m u IRQV v l h (omega arith)) (λ _. refl)
+      (λ _. voice-set-shared m u IRQV v l h (omega arith)) (λ _. refl)
 
 added-to-voice : (m : List ℕ) (i : ℕ) (z : ℤ) (u : ℕ) → length m ≡ RECORD_WORDS → u < 32 → PAGE ≤ i → voiceAt (addedTo m i z) u ≡ voiceAt m u
 unfolding addedTo
-added-to-voice m i z u l h k = voice-set-above m u i (mixed (getD m i 0) (word 23 z)) l h k
+added-to-voice m i z u l h k = voice-set-shared m u i (mixed (getD m i 0) (word 23 z)) l h k
 
 added-to-same : (m : List ℕ) (i j : ℕ) (z : ℤ) → j ≡ i → i < length m → getD (addedTo m i z) j 0 ≡ (getD m j 0 + word 23 z) % 8388608
 unfolding addedTo
@@ -214,7 +214,7 @@ module _ (m : List ℕ) (s : Sound m) where
   pub closed-voice : (v : ℕ) → v < 32 → voiceAt (closed m) v ≡ voiceAt m v
   unfolding closed next
   closed-voice v h =
-      voice-set-above (silenced m) v SLOW next silenced-length h (omega arith)
+      voice-set-shared (silenced m) v SLOW next silenced-length h (omega arith)
       ∙ voice-same (silenced m) m v v (omega (arith, silenced-length)) (omega (arith, s .size)) (λ j k. silenced-word (20 * v + j) (omega arith))
 
   pub closed-active : getD (closed m) ACTV 0 ≡ getD m ACTV 0
@@ -241,7 +241,7 @@ module _ (m : List ℕ) (s : Sound m) where
   }
 
   pub sound-closed : Sound (closed m)
-  unfolding closed next cut bitsOf commonBits
+  unfolding closed next cut bitsOf sharedBits
   sound-closed =
       sound-set SLOW next silenced-sound (omega arith)
       (and-mask next 3 ∙ mod-eq-of-lt (omega arith)) (λ e. absurd (let y : ⊥ = omega arith in y))

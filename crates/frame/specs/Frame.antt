@@ -13,7 +13,7 @@ use Rattle.answer.specs.declared.Answer.{Answer}
 use Rattle.answer.specs.declared.Answer.the-variants.{RecordLength, RecordInvalid, MemoryLength, OutputLength}
 use Rattle.control.specs.Control.{flagOf, channelOf, IRQ}
 use Rattle.channel.specs.Channel.{mixed, putOut}
-use Rattle.machine.specs.Words.{IRQV, ACTV, SLOW, SUMS, OUTPUT_VALUES, NO_VOICE}
+use Rattle.machine.specs.Words.{IRQV, ACTV, SLOW, SUMS, OUTPUT_VALUES, NO_INTERRUPT}
 use Rattle.machine.specs.Voices.{voiceAt, putVoice}
 use Rattle.machine.specs.Check.{wrongLength, notValid}
 use Rattle.sample.specs.Sample.{MOST_MEMORY_WORDS}
@@ -32,7 +32,7 @@ added m c left right = cond (ltb c 6) (addedTo (addedTo m (SUMS + 2 * c) left) (
 
 -- the interrupt step of voice v, whose control register is CR: a waiting voice enters an empty vector
 unfoldable pub signalled : List ℕ → ℕ → ℕ → List ℕ
-signalled m v CR = cond (flagOf IRQ CR && eqb (getD m IRQV 0) NO_VOICE) (set m IRQV v) m
+signalled m v CR = cond (flagOf IRQ CR && eqb (getD m IRQV 0) NO_INTERRUPT) (set m IRQV v) m
 
 -- The turn of voice v. It is taken on the registers as they stand; they take the turn's; left and right are added to the sums of the channel
 -- that the voice was on; and the interrupt step goes by the flag as the turn left it.

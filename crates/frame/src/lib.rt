@@ -118,7 +118,7 @@ fn signal(m: &mut [u32], v: usize, cr: u32)
     ensures { λ _. ⌜ now (m .exit) ≡ signalled (now (m .entry)) v cr ⌝ }
 {
     if control::flag(control::IRQ, cr) {
-        if m[machine::IRQV] == machine::NO_VOICE {
+        if m[machine::IRQV] == machine::NO_INTERRUPT {
             m[machine::IRQV] = v as u32;
         }
     }

@@ -6,7 +6,7 @@ use Prim.Native.Nat.{ℕ, zero, suc, _+_, _<_}
 use native.Mathlib.Nat.{not-suc-le-zero, le-of-suc-le-suc, add-zero, zero-add, add-suc, suc-add}
 use lib.ListN.{length, getD}
 use lib.Seq.{ext-getD}
-use Rattle.machine.specs.Words.{valid, cutTo, cut, bitsOf, voiceBits, commonBits, isVector, RECORD_WORDS}
+use Rattle.machine.specs.Words.{valid, cutTo, cut, bitsOf, voiceBits, sharedBits, isVector, RECORD_WORDS}
 use Rattle.machine.specs.Reset.{resetWord, wordsFrom, fresh}
 
 from-length : (f : ℕ → ℕ) (i n : ℕ) → length (wordsFrom f i n) ≡ n
@@ -33,5 +33,5 @@ pub is-fresh : (m : List ℕ) → length m ≡ RECORD_WORDS → ((k : ℕ) → k
 is-fresh m h f = ext-getD 0 m fresh (h ∙ sym fresh-length) (λ k l. let q : k < RECORD_WORDS = rw h at l in f k q ∙ sym (fresh-at k q))
 
 pub fresh-valid : valid fresh ≡ true
-unfolding valid cutTo cut bitsOf commonBits isVector fresh wordsFrom resetWord
+unfolding valid cutTo cut bitsOf sharedBits isVector fresh wordsFrom resetWord
 fresh-valid = refl

@@ -14,8 +14,8 @@ use lib.Dec.{eqb, eqb→eq}
 use lib.ListN.{length, getD, set, length-set}
 use borrow.Author.Tests.{eq-eqb, ne-eqb, eqb-true, eqb-false, le-ltb}
 use Rattle.numbers.proofs.Tests.{all-at}
-use Rattle.machine.specs.Words.{PAGE, SUMS, bits, voiceBits, commonBits, bitsOf}
-use Rattle.machine.specs.Kept.{among, keptAt, gathered, inVoices, inSums, gatheredKept, sumsKept, threeKept, commonKept, clear, Lanes}
+use Rattle.machine.specs.Words.{PAGE, SUMS, bits, voiceBits, sharedBits, bitsOf}
+use Rattle.machine.specs.Kept.{among, keptAt, gathered, inVoices, inSums, gatheredKept, sumsKept, threeKept, sharedKept, clear, Lanes}
 
 or-zero : (a b : ℕ) → bitOr a b ≡ 0 → (a ≡ 0) × (b ≡ 0)
 or-zero a b h = omega (arith, or-add-and a b, and-le-l a b, and-le-r a b)
@@ -138,10 +138,10 @@ three-sums m l =
 pub last-bits : (l : ℕ) → l < 4 → bits 17 0 ≡ getD voiceBits (16 + l) 0
 last-bits l h = eqb→eq (bits 17 0) (getD voiceBits (16 + l) 0) (all-at (λ k. eqb (bits 17 0) (getD voiceBits (16 + k) 0)) 4 tt l h)
 
--- word i above the voices keeps what their table has at its place j
-above-bits : (i j : ℕ) → i ≡ PAGE + j → bitsOf i ≡ getD commonBits j 0
+-- shared word i keeps what their table has at its place j
+shared-bits : (i j : ℕ) → i ≡ PAGE + j → bitsOf i ≡ getD sharedBits j 0
 unfolding bitsOf
-above-bits i j e = let d : i - PAGE ≡ j = omega arith in rw (le-ltb i PAGE (omega arith), d)
+shared-bits i j e = let d : i - PAGE ≡ j = omega arith in rw (le-ltb i PAGE (omega arith), d)
 
 -- ---- the lanes
 
@@ -169,13 +169,13 @@ one-more-gathered m j l x k {s} p h ex ek =
     rw (add-one, ← ex, ← ek) (one-lane p l _ (among x k) h (joins (itself (getD s l 0)) (strays x k)))
 
 -- and with it sum l, word l from PAGE on, and those 4 and 8 after each
-pub one-more-of-all : (m w : List ℕ) (j l x k y : ℕ) {s : List ℕ} → Lanes s (gatheredKept m j && sumsKept m l && commonKept m l) → l < 4
-    → x ≡ inVoices m j → k ≡ getD voiceBits j 0 → y ≡ inSums m l → w ≡ commonBits
+pub one-more-of-all : (m w : List ℕ) (j l x k y : ℕ) {s : List ℕ} → Lanes s (gatheredKept m j && sumsKept m l && sharedKept m l) → l < 4
+    → x ≡ inVoices m j → k ≡ getD voiceBits j 0 → y ≡ inSums m l → w ≡ sharedBits
     → Lanes (set s l
     (bitOr (bitOr (bitOr (bitOr (bitOr (getD s l 0) (stray x k)) (stray y (bitsOf SUMS))) (stray (getD m (PAGE + l) 0) (getD w l 0)))
     (stray (getD m (PAGE + 4 + l) 0) (getD w (4 + l) 0))) (stray (getD m (PAGE + 8 + l) 0) (getD w (8 + l) 0))))
-    (gatheredKept m (j + 1) && sumsKept m (l + 1) && commonKept m (l + 1))
-unfolding gatheredKept sumsKept commonKept
+    (gatheredKept m (j + 1) && sumsKept m (l + 1) && sharedKept m (l + 1))
+unfolding gatheredKept sumsKept sharedKept
 one-more-of-all m w j l x k y {s} p h ex ek ey ew =
     let z = bitsOf SUMS in
     let a = PAGE + l in
@@ -190,11 +190,11 @@ one-more-of-all m w j l x k y {s} p h ex ek ey ew =
       ← ek,
       ← ey,
       ew,
-      ← (above-bits a l refl),
-      ← (above-bits b (4 + l) (omega arith)),
-      ← (above-bits c (8 + l) (omega arith)),
+      ← (shared-bits a l refl),
+      ← (shared-bits b (4 + l) (omega arith)),
+      ← (shared-bits c (8 + l) (omega arith)),
       ← (pairwise (gatheredKept m j) (sumsKept m l) (among x k) (among y z)),
-      ← (pairwise (gatheredKept m j && sumsKept m l) (commonKept m l) (among x k && among y z) (threeKept m l)),
+      ← (pairwise (gatheredKept m j && sumsKept m l) (sharedKept m l) (among x k && among y z) (threeKept m l)),
     )
     (one-lane p l _ (among x k && among y z && threeKept m l) h (record { tells = q .tells ∙ simp and-assoc }))
 

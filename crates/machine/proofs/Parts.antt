@@ -1,5 +1,5 @@
 -- A voice in the record: a word of it, and what a store and a put voice leave of each voice and of each other word.
--- In order: reading; a store; a put voice; a store above the voices. Assumes nothing.
+-- In order: reading; a store; a put voice; a store of a shared word. Assumes nothing.
 use mathlib.Core.Path.{_≡_, sym, ap, subst, _∙_}
 use mathlib.Core.List.{List, _++_}
 use mathlib.Core.Logic.{_≢_}
@@ -87,7 +87,7 @@ module _ (m : List ℕ) (v : ℕ) (w : List ℕ) (long : length w ≡ 20) (fits 
       voice-same (putVoice m v w) m u u (omega (arith, put-length)) h
       (λ j k. put-out (20 * u + j) (λ a b. n (omega arith)))
 
--- ---- the words above the voices
+-- ---- the shared words
 
-pub voice-set-above : (m : List ℕ) (v i x : ℕ) → length m ≡ RECORD_WORDS → v < 32 → PAGE ≤ i → voiceAt (set m i x) v ≡ voiceAt m v
-voice-set-above m v i x l h k = voice-set-out m v i x (omega arith) (λ j d e. omega arith)
+pub voice-set-shared : (m : List ℕ) (v i x : ℕ) → length m ≡ RECORD_WORDS → v < 32 → PAGE ≤ i → voiceAt (set m i x) v ≡ voiceAt m v
+voice-set-shared m v i x l h k = voice-set-out m v i x (omega arith) (λ j d e. omega arith)

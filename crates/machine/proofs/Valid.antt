@@ -14,9 +14,9 @@ use lib.ListN.{length, getD, set, length-set}
 use lib.Seq.{getD-set-same, getD-set-other}
 use borrow.Author.Tests.{eq-eqb, eqb-true, lt-ltb}
 use Rattle.numbers.proofs.Tests.{cases, all-at}
-use Rattle.machine.specs.Words.{RECORD_WORDS, PAGE, IRQV, SUMS, voiceBits, commonBits, bitsOf, cut, cutTo, isVector, valid}
+use Rattle.machine.specs.Words.{RECORD_WORDS, PAGE, IRQV, SUMS, voiceBits, sharedBits, bitsOf, cut, cutTo, isVector, valid}
 use Rattle.machine.specs.Voices.{voiceAt, putVoice}
-use Rattle.machine.specs.Kept.{among, keptAt, gathered, gatheredKept, sumsKept, threeKept, commonKept}
+use Rattle.machine.specs.Kept.{among, keptAt, gathered, gatheredKept, sumsKept, threeKept, sharedKept}
 use Rattle.machine.proofs.Kept.{and-again, or-kept}
 use Rattle.machine.proofs.Parts.{voice-word, put-length, put-in, put-out}
 
@@ -92,7 +92,7 @@ bits-voice v j h k = let e : (20 * v + j) % 20 ≡ j = omega arith in rw (lt-ltb
 
 -- all twelve sums keep the same
 bits-sum : (v j : ℕ) → v < 3 → j < 4 → bitsOf (4 * v + (SUMS + j)) ≡ bitsOf SUMS
-unfolding bitsOf commonBits
+unfolding bitsOf sharedBits
 bits-sum v j h k =
     let e : SUMS + (4 * v + j) ≡ 4 * v + (SUMS + j) = omega arith in
     rw (← e) (eqb→eq (bitsOf (SUMS + (4 * v + j))) (bitsOf SUMS) (all-at (λ (n : ℕ). eqb (bitsOf (SUMS + n)) (bitsOf SUMS)) 12 tt (4 * v + j) (omega arith)))
@@ -130,8 +130,8 @@ found m i n k e b p = subst (λ (x : ℕ). keptAt m x ≡ true) e (rw b p)
 
 -- all voices at once, the sums and the words between four by four, or word by word: one test
 module _ (m : List ℕ) where
-  words-found : gatheredKept m 20 ≡ true → sumsKept m 4 ≡ true → commonKept m 4 ≡ true → (i : ℕ) → i < RECORD_WORDS → keptAt m i ≡ true
-  unfolding gatheredKept sumsKept commonKept
+  words-found : gatheredKept m 20 ≡ true → sumsKept m 4 ≡ true → sharedKept m 4 ≡ true → (i : ℕ) → i < RECORD_WORDS → keptAt m i ≡ true
+  unfolding gatheredKept sumsKept sharedKept
   words-found hv hs ha i h = cases i PAGE (keptAt m i ≡ true)
       (λ l.
       let v = i / 20 in
@@ -143,7 +143,7 @@ module _ (m : List ℕ) where
       (λ l. cases i SUMS (keptAt m i ≡ true)
       (λ q.
       let j = (i - PAGE) % 4 in
-      let p = both _ _ (each (threeKept m) (commonKept m) refl (λ j. refl) 4 ha j (omega arith)) in
+      let p = both _ _ (each (threeKept m) (sharedKept m) refl (λ j. refl) 4 ha j (omega arith)) in
       let r = both _ _ (p .0) in
       cases i (PAGE + 4) (keptAt m i ≡ true)
       (λ a. found m i (PAGE + j) _ (omega arith) refl (r .0))
@@ -169,18 +169,18 @@ module _ (m : List ℕ) where
     sums-found = table-all m 4 3 (λ j. SUMS + j) (λ j. bitsOf SUMS) (sumsKept m) refl (λ j. refl) 4
         (λ v j vk jk. rw (← (bits-sum v j vk jk)) (f (4 * v + (SUMS + j)) (omega arith)))
 
-    above-found : commonKept m 4 ≡ true
-    unfolding commonKept
-    above-found = from-each (threeKept m) (commonKept m) refl (λ j. refl) 4
+    shared-found : sharedKept m 4 ≡ true
+    unfolding sharedKept
+    shared-found = from-each (threeKept m) (sharedKept m) refl (λ j. refl) 4
         (λ l k. ap₂ _&&_ (ap₂ _&&_ (f (PAGE + l) (omega arith)) (f (PAGE + 4 + l) (omega arith))) (f (PAGE + 8 + l) (omega arith)))
 
-  pub words-test : (gatheredKept m 20 && sumsKept m 4 && commonKept m 4) ≡ cutTo m RECORD_WORDS
-  words-test = same-bool (gatheredKept m 20 && sumsKept m 4 && commonKept m 4) (cutTo m RECORD_WORDS)
+  pub words-test : (gatheredKept m 20 && sumsKept m 4 && sharedKept m 4) ≡ cutTo m RECORD_WORDS
+  words-test = same-bool (gatheredKept m 20 && sumsKept m 4 && sharedKept m 4) (cutTo m RECORD_WORDS)
       (λ h.
-      let p = both (gatheredKept m 20 && sumsKept m 4) (commonKept m 4) h in
+      let p = both (gatheredKept m 20 && sumsKept m 4) (sharedKept m 4) h in
       let q = both (gatheredKept m 20) (sumsKept m 4) (p .0) in
       tests-all m RECORD_WORDS (words-found (q .0) (q .1) (p .1)))
-      (λ h. let f = tests-each m RECORD_WORDS h in ap₂ _&&_ (ap₂ _&&_ (voices-found f) (sums-found f)) (above-found f))
+      (λ h. let f = tests-each m RECORD_WORDS h in ap₂ _&&_ (ap₂ _&&_ (voices-found f) (sums-found f)) (shared-found f))
 
 -- ---- what keeps a record valid
 

@@ -46,9 +46,9 @@ abbrev pub threeKept : List ℕ → ℕ → Bool
 threeKept m l = keptAt m (PAGE + l) && keptAt m (PAGE + 4 + l) && keptAt m (PAGE + 8 + l)
 
 -- none of the first n words from PAGE on, nor of those 4 and 8 after each, has a bit that it does not keep
-unfoldable pub commonKept : List ℕ → ℕ → Bool
-commonKept m zero = true
-commonKept m (suc l) = commonKept m l && threeKept m l
+unfoldable pub sharedKept : List ℕ → ℕ → Bool
+sharedKept m zero = true
+sharedKept m (suc l) = sharedKept m l && threeKept m l
 
 -- no lane has a bit
 unfoldable pub clear : List ℕ → Bool

@@ -7,17 +7,17 @@ use lib.Dec.{eqb, ltb}
 use Rattle.answer.specs.Answer.{isDone, firstRefusal}
 use Rattle.answer.specs.declared.Answer.{Answer}
 use Rattle.answer.specs.declared.Answer.the-variants.{RecordLength}
-use Rattle.machine.specs.Words.{RECORD_WORDS, VOICE_WORDS, CR, PAGE, IRQV, PAR, ACTV, MODE, NO_VOICE}
+use Rattle.machine.specs.Words.{RECORD_WORDS, VOICE_WORDS, CR, PAGE, IRQV, PAR, ACTV, MODE, NO_INTERRUPT}
 use Rattle.machine.specs.Check.{wrongLength}
 
 unfoldable pub resetAnswer : List ℕ → Answer
 resetAnswer m = firstRefusal ((wrongLength m, RecordLength) ∷ [])
 
--- a word after a reset: 0, but CR of each voice, which has both stop bits set, and four of the common words
+-- a word after a reset: 0, but CR of each voice, which has both stop bits set, and four of the shared words
 unfoldable pub resetWord : ℕ → ℕ
 resetWord i =
     cond (ltb i PAGE) (cond (eqb (i % VOICE_WORDS) CR) 3 0)
-    (cond (eqb i IRQV) NO_VOICE
+    (cond (eqb i IRQV) NO_INTERRUPT
     (cond (eqb i PAR) 1023
     (cond (eqb i ACTV) 31
     (cond (eqb i MODE) 23 0))))

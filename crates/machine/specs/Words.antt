@@ -1,6 +1,6 @@
 -- The machine record: its words by name, the bits that each keeps, and when a record is valid. Every rule that touches a word takes
 -- its number and its bits from here.
--- In order: the sizes; the words of a voice; the common words; the bits kept; a word cut to them; validity. Assumes nothing.
+-- In order: the sizes; the words of a voice; the shared words; the bits kept; a word cut to them; validity. Assumes nothing.
 use Prim.Native.Nat.{ℕ, zero, suc, _+_, _-_, _*_, _%_, _^_}
 use mathlib.Core.Bool.{Bool, true, cond, not, _&&_, _||_}
 use mathlib.Core.List.{List, [], _∷_}
@@ -88,7 +88,7 @@ O1N1 = 19
 abbrev pub voiceWord : ℕ → ℕ → ℕ
 voiceWord v j = VOICE_WORDS * v + j
 
--- ---- the words after the voices', which all voices have in common
+-- ---- the words after the voices', which all voices share
 
 abbrev pub PAGE : ℕ
 PAGE = 640
@@ -117,11 +117,11 @@ LR_END = 647
 abbrev pub SLOW : ℕ
 SLOW = 648
 
-abbrev pub WRITE : ℕ
-WRITE = 649
+abbrev pub WRITE_LATCH : ℕ
+WRITE_LATCH = 649
 
-abbrev pub READ : ℕ
-READ = 650
+abbrev pub READ_LATCH : ℕ
+READ_LATCH = 650
 
 -- the channel sums, 0L, 0R to 5L, 5R, and how many they are: one for each value that a frame puts out
 abbrev pub SUMS : ℕ
@@ -131,8 +131,8 @@ abbrev pub OUTPUT_VALUES : ℕ
 OUTPUT_VALUES = 12
 
 -- what the interrupt vector holds where it names no voice
-abbrev pub NO_VOICE : ℕ
-NO_VOICE = 128
+abbrev pub NO_INTERRUPT : ℕ
+NO_INTERRUPT = 128
 
 -- ---- the bits kept
 
@@ -150,9 +150,9 @@ voiceBits =
     ∷ bits 31 11 ∷ bits 31 7 ∷ bits 31 0
     ∷ bits 17 0 ∷ bits 17 0 ∷ bits 17 0 ∷ bits 17 0 ∷ bits 17 0 ∷ bits 17 0 ∷ []
 
--- by the common words: PAGE, IRQV, PAR, ACTV, MODE; W_ST, W_END, LR_END; the slow-ramp counter; the latches; the sums
-unfoldable pub commonBits : List ℕ
-commonBits =
+-- by the shared words: PAGE, IRQV, PAR, ACTV, MODE; W_ST, W_END, LR_END; the slow-ramp counter; the latches; the sums
+unfoldable pub sharedBits : List ℕ
+sharedBits =
     bits 6 0 ∷ bits 7 0 ∷ bits 9 0 ∷ bits 4 0 ∷ bits 4 0
     ∷ bits 6 0 ∷ bits 6 0 ∷ bits 6 0
     ∷ bits 2 0
@@ -162,7 +162,7 @@ commonBits =
 
 -- by word i
 unfoldable pub bitsOf : ℕ → ℕ
-bitsOf i = cond (ltb i PAGE) (getD voiceBits (i % VOICE_WORDS) 0) (getD commonBits (i - PAGE) 0)
+bitsOf i = cond (ltb i PAGE) (getD voiceBits (i % VOICE_WORDS) 0) (getD sharedBits (i - PAGE) 0)
 
 -- one more than the greatest value that word j of a voice can have
 abbrev pub voiceRange : ℕ → ℕ
@@ -181,7 +181,7 @@ cutTo m (suc i) = cutTo m i && eqb (cut i (getD m i 0)) (getD m i 0)
 
 -- the interrupt vector names a voice, or none
 unfoldable pub isVector : ℕ → Bool
-isVector x = ltb x VOICES || eqb x NO_VOICE
+isVector x = ltb x VOICES || eqb x NO_INTERRUPT
 
 unfoldable pub valid : List ℕ → Bool
 valid m = eqb (length m) RECORD_WORDS && (cutTo m RECORD_WORDS && isVector (getD m IRQV 0))

@@ -3,8 +3,8 @@ ghost use mathlib.Core.Path.{_≡_};
 ghost use mathlib.Core.Bool.{_&&_};
 ghost use Prim.Native.Nat.{_+_, _<_, _≤_};
 ghost use lib.ListN.{length};
-ghost use Rattle.machine.specs.Words.{bitsOf, voiceBits, commonBits, RECORD_WORDS as Words·RECORD_WORDS, O3N2 as Words·O3N2};
-ghost use Rattle.machine.specs.Kept.{inVoices, gatheredKept, sumsKept, commonKept, Lanes};
+ghost use Rattle.machine.specs.Words.{bitsOf, voiceBits, sharedBits, RECORD_WORDS as Words·RECORD_WORDS, O3N2 as Words·O3N2};
+ghost use Rattle.machine.specs.Kept.{inVoices, gatheredKept, sumsKept, sharedKept, Lanes};
 ghost use Rattle.machine.specs.Check.{checked};
 ghost use Rattle.machine.specs.Reset.{Resets, fresh};
 ghost use Rattle.machine.specs.Reset.{resetWord as Reset·resetWord};
@@ -58,7 +58,7 @@ pub const O2N2: usize = 18;
 
 pub const O1N1: usize = 19;
 
-// The words after the voices', which all voices have in common.
+// The words after the voices', which all voices share.
 pub const PAGE: usize = 640;
 
 pub const IRQV: usize = 641;
@@ -77,9 +77,9 @@ pub const LR_END: usize = 647;
 
 pub const SLOW: usize = 648;
 
-pub const WRITE: usize = 649;
+pub const WRITE_LATCH: usize = 649;
 
-pub const READ: usize = 650;
+pub const READ_LATCH: usize = 650;
 
 // The channel sums, 0L, 0R to 5L, 5R, one for each value that a frame puts out; and the word after the last.
 pub const SUMS: usize = 651;
@@ -89,14 +89,14 @@ pub const OUTPUT_VALUES: usize = 12;
 pub const SUMS_END: usize = SUMS + OUTPUT_VALUES;
 
 // What the interrupt vector holds where it names no voice.
-pub const NO_VOICE: u32 = 128;
+pub const NO_INTERRUPT: u32 = 128;
 
 // The bits kept by a filter word of a voice, and by a sum: the check holds four of them at a time against one mask.
 const FILTER_BITS: u32 = 0x3FFFF;
 
 const SUM_BITS: u32 = 0x7F_FFFF;
 
-// The bits kept by a voice's words, and by the common words.
+// The bits kept by a voice's words, and by the shared words.
 const VOICE_BITS: [u32; VOICE_WORDS] = [
     0xFFFF, // CR
     0x1FFFF, // FC
@@ -120,7 +120,7 @@ const VOICE_BITS: [u32; VOICE_WORDS] = [
     FILTER_BITS, // O1(n-1)
 ];
 
-const COMMON_BITS: [u32; 23] = [
+const SHARED_BITS: [u32; 23] = [
     0x7F, // PAGE
     0xFF, // IRQV
     0x3FF, // PAR
@@ -156,7 +156,7 @@ pub fn bits_of(i: usize) -> u32
         VOICE_BITS[j]
     } else {
         let j = i - PAGE;
-        COMMON_BITS[j]
+        SHARED_BITS[j]
     }
 }
 
@@ -173,7 +173,7 @@ pub fn check(m: &[u32]) -> Answer
     for g in 0..4 {
         look_at_four(m, 4 * g, &kept, &mut stray);
     }
-    let above = COMMON_BITS;
+    let above = SHARED_BITS;
     look_at_rest(m, &above, &mut stray);
     if stray[0] | stray[1] | stray[2] | stray[3] != 0 {
         return Answer::RecordInvalid;
@@ -182,7 +182,7 @@ pub fn check(m: &[u32]) -> Answer
     if vector < VOICES as u32 {
         return Answer::Done;
     }
-    if vector == NO_VOICE {
+    if vector == NO_INTERRUPT {
         return Answer::Done;
     }
     Answer::RecordInvalid
@@ -206,9 +206,9 @@ fn look_at_four(m: &[u32], j: usize, kept: &[u32; 20], stray: &mut [u32; 4])
 // words and one the sums; only the words between have masks of their own. They are eleven, so the last lane takes the first sum twice.
 fn look_at_rest(m: &[u32], kept: &[u32; 23], stray: &mut [u32; 4])
     requires { ⌜ length (now m) ≡ Words·RECORD_WORDS ⌝ }
-    requires { ⌜ now kept ≡ commonBits ⌝ }
+    requires { ⌜ now kept ≡ sharedBits ⌝ }
     requires { ⌜ Lanes (now stray) (gatheredKept (now m) 16) ⌝ }
-    ensures { λ _. ⌜ Lanes (now (stray .exit)) (gatheredKept (now (m .entry)) 20 && sumsKept (now (m .entry)) 4 && commonKept (now (m .entry)) 4) ⌝ }
+    ensures { λ _. ⌜ Lanes (now (stray .exit)) (gatheredKept (now (m .entry)) 20 && sumsKept (now (m .entry)) 4 && sharedKept (now (m .entry)) 4) ⌝ }
 {
     for l in 0..4 {
         let all = gather_last(m, l);
@@ -282,7 +282,7 @@ fn reset_word(i: usize) -> u32
         return 0;
     }
     match i {
-        IRQV => NO_VOICE,
+        IRQV => NO_INTERRUPT,
         PAR => 1023,
         ACTV => 31,
         MODE => 23,

@@ -17,7 +17,7 @@ use Rattle.answer.specs.Answer.{isDone}
 use Rattle.answer.specs.declared.Answer.the-variants.{Pot as PotRefused}
 use Rattle.control.specs.Control.{IRQ, bitOf, withBit}
 use Rattle.control.proofs.Bits.{read-other}
-use Rattle.machine.specs.Words.{CR, PAGE, IRQV, PAR, WRITE, READ, voiceWord, cut, valid, RECORD_WORDS}
+use Rattle.machine.specs.Words.{CR, PAGE, IRQV, PAR, WRITE_LATCH, READ_LATCH, voiceWord, cut, valid, RECORD_WORDS}
 use Rattle.machine.specs.Voices.{voiceAt}
 use Rattle.machine.proofs.Parts.{voice-set, voice-set-out}
 use Rattle.machine.proofs.Valid.{Sound, sound, is-valid}
@@ -69,7 +69,7 @@ pot-refused m p h = rw h
 -- ---- what a read can change
 
 -- a fact of the record holds after a read if it holds of what a register's byte 0 leaves
-after-read : (P : List ℕ → Type 0) (m : List ℕ) (a : ℕ) → P m → (Sound m → (register : Register) → P (sideEffect (set m READ (readAs m register)) register))
+after-read : (P : List ℕ → Type 0) (m : List ℕ) (a : ℕ) → P m → (Sound m → (register : Register) → P (sideEffect (set m READ_LATCH (readAs m register)) register))
     → P (readRecord m a)
 unfolding readRecord byteRead
 after-read P m a h f =
@@ -96,12 +96,12 @@ module _ (m : List ℕ) (i : ℕ) (not-vector : i ≢ IRQV) where
   touched-keeps Nothing p h = refl
 
 -- Every word is as it was, but for the read latch, PAR, IRQV and the control register of the voice that the vector names.
-pub read-keeps : (m : List ℕ) (a i : ℕ) → i ≢ READ → i ≢ PAR → i ≢ IRQV → i ≢ voiceWord (getD m IRQV 0) CR → getD (readRecord m a) i 0 ≡ getD m i 0
+pub read-keeps : (m : List ℕ) (a i : ℕ) → i ≢ READ_LATCH → i ≢ PAR → i ≢ IRQV → i ≢ voiceWord (getD m IRQV 0) CR → getD (readRecord m a) i 0 ≡ getD m i 0
 read-keeps m a i l p q h = after-read (λ (n : List ℕ). getD n i 0 ≡ getD m i 0) m a refl
     (λ _ register.
     let x = readAs m register in
-    let same : getD (set m READ x) IRQV 0 ≡ getD m IRQV 0 = getD-set-other m READ IRQV x 0 (λ (z : IRQV ≡ READ). omega arith) in
-    touched-keeps (set m READ x) i q register p (subst (λ (v : ℕ). i ≢ voiceWord v CR) (sym same) h) ∙ getD-set-other m READ i x 0 l)
+    let same : getD (set m READ_LATCH x) IRQV 0 ≡ getD m IRQV 0 = getD-set-other m READ_LATCH IRQV x 0 (λ (z : IRQV ≡ READ_LATCH). omega arith) in
+    touched-keeps (set m READ_LATCH x) i q register p (subst (λ (v : ℕ). i ≢ voiceWord v CR) (sym same) h) ∙ getD-set-other m READ_LATCH i x 0 l)
 
 module _ (m : List ℕ) (long : length m ≡ RECORD_WORDS) (v n : ℕ) (hv : v < 32) (other : n ≢ IRQ) where
   cr-bit : (j : ℕ) → j < RECORD_WORDS → Dec (voiceWord v CR ≡ j) → bitOf n (getD (set m j (withBit IRQ 0 (getD m j 0))) (voiceWord v CR) 0) ≡ bitOf n (getD m (voiceWord v CR) 0)
@@ -132,8 +132,8 @@ pub read-flag : (m : List ℕ) (a v n : ℕ) → v < 32 → n ≢ IRQ → bitOf 
 read-flag m a v n h k = after-read (λ (l : List ℕ). bitOf n (getD l (voiceWord v CR) 0) ≡ bitOf n (getD m (voiceWord v CR) 0)) m a refl
     (λ s register.
     let x = readAs m register in
-    touched-bit (set m READ x) (length-set m READ x ∙ s .size) v n h k register
-    ∙ ap (bitOf n) (getD-set-other m READ (voiceWord v CR) x 0 (λ z. omega arith)))
+    touched-bit (set m READ_LATCH x) (length-set m READ_LATCH x ∙ s .size) v n h k register
+    ∙ ap (bitOf n) (getD-set-other m READ_LATCH (voiceWord v CR) x 0 (λ z. omega arith)))
 
 -- ---- a whole register write of a voice
 
@@ -141,7 +141,7 @@ read-flag m a v n h k = after-read (λ (l : List ℕ). bitOf n (getD l (voiceWor
 module _ (m : List ℕ) (r x v j : ℕ) (ok : valid m ≡ true) (hr : r < 16) (hx : x < 2 ^ 32) (hv : v < 32) (hj : j < 20)
     (named : registerOf (getD m PAGE 0) r ≡ Word (voiceWord v j)) where
   -- The word takes x, cut to its bits, and the write latch is 0, whatever it held; nothing else changes.
-  pub whole-leaves : wholeWrite m r x ≡ set (set m (voiceWord v j) (cut (voiceWord v j) x)) WRITE 0
+  pub whole-leaves : wholeWrite m r x ≡ set (set m (voiceWord v j) (cut (voiceWord v j) x)) WRITE_LATCH 0
   unfolding stored
   whole-leaves = whole-write m r x (sound m ok) hr hx ∙ rw named
 
@@ -149,8 +149,8 @@ module _ (m : List ℕ) (r x v j : ℕ) (ok : valid m ≡ true) (hr : r < 16) (h
   fits u h = omega (arith, sound m ok .size)
 
   -- a store at the latch is at none of a voice's words
-  under-latch : (n : List ℕ) (u : ℕ) → u < 32 → length n ≡ length m → voiceAt (set n WRITE 0) u ≡ voiceAt n u
-  under-latch n u h e = voice-set-out n u WRITE 0 (omega (arith, fits u h)) (λ i k q. omega arith)
+  under-latch : (n : List ℕ) (u : ℕ) → u < 32 → length n ≡ length m → voiceAt (set n WRITE_LATCH 0) u ≡ voiceAt n u
+  under-latch n u h e = voice-set-out n u WRITE_LATCH 0 (omega (arith, fits u h)) (λ i k q. omega arith)
 
   -- So the voice has one word replaced,
   pub whole-voice : voiceAt (wholeWrite m r x) v ≡ set (voiceAt m v) j (cut (voiceWord v j) x)

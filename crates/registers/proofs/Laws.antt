@@ -11,7 +11,7 @@ use Rattle.answer.specs.Answer.{isDone, firstRefusal}
 use Rattle.answer.specs.declared.Answer.{Answer}
 use Rattle.answer.specs.declared.Answer.the-variants.{Done, RecordLength, RecordInvalid, Address}
 use Rattle.answer.proofs.Refusals.{none-holds, refused-early}
-use Rattle.machine.specs.Words.{PAR, READ}
+use Rattle.machine.specs.Words.{PAR, READ_LATCH}
 use Rattle.machine.specs.Check.{wrongLength, notValid, checked}
 use Rattle.machine.proofs.Valid.{Sound}
 use Rattle.machine.proofs.Answers.{sound-tests, tests-sound}
@@ -64,7 +64,7 @@ module _ (m : List ℕ) (a : ℕ) where
   unfolding readRecord readByte
   reads-refused r e h = record { answers = sym e; gives = rw (e, h); leaves = rw (e, h) }
 
-  pub reads-done : (byte : ℕ) (after : List ℕ) → byteAnswer m a ≡ Done → after ≡ byteRead m (a / 4) (a % 4) → byte ≡ byteOf (a % 4) (getD after READ 0)
+  pub reads-done : (byte : ℕ) (after : List ℕ) → byteAnswer m a ≡ Done → after ≡ byteRead m (a / 4) (a % 4) → byte ≡ byteOf (a % 4) (getD after READ_LATCH 0)
       → Reads m a Done byte after
   unfolding readRecord readByte
   reads-done byte after e l g = record { answers = sym e; gives = rw (e, ← l) g; leaves = rw e l }

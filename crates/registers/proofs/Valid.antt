@@ -13,7 +13,7 @@ use borrow.Author.Tests.{ltb-true}
 use Rattle.numbers.proofs.Tests.{either, all-at}
 use Rattle.control.specs.Control.{withBit, IRQ}
 use Rattle.control.proofs.Bits.{put-small}
-use Rattle.machine.specs.Words.{CR, PAGE, IRQV, PAR, WRITE, READ, voiceWord, voiceBits, commonBits, bitsOf, cut, isVector, RECORD_WORDS}
+use Rattle.machine.specs.Words.{CR, PAGE, IRQV, PAR, WRITE_LATCH, READ_LATCH, voiceWord, voiceBits, sharedBits, bitsOf, cut, isVector, RECORD_WORDS}
 use Rattle.machine.proofs.Valid.{Sound, word-le, bits-voice, cut-again, sound-set}
 use Rattle.registers.specs.declared.Register.{Register}
 use Rattle.registers.specs.declared.Register.the-variants.{Word, Sum, Pot, Vector, Nothing}
@@ -29,7 +29,7 @@ unfolding cut
 cut-low i n x e h = rw e (and-mask x n ∙ mod-eq-of-lt h)
 
 bits-lt : (i : ℕ) → i < RECORD_WORDS → bitsOf i < 2 ^ 32
-unfolding bitsOf commonBits
+unfolding bitsOf sharedBits
 bits-lt i h = ltb→lt (bitsOf i) (2 ^ 32) (all-at (λ j. ltb (bitsOf j) (2 ^ 32)) RECORD_WORDS tt i h)
 
 pub word-lt : (m : List ℕ) → Sound m → (i : ℕ) → i < RECORD_WORDS → getD m i 0 < 2 ^ 32
@@ -48,16 +48,16 @@ cr-lt m s v h = omega (arith, word-le m s (voiceWord v CR) (omega arith), cr-bit
 low-sound : {m : List ℕ} (i n x : ℕ) → Sound m → i < RECORD_WORDS → i ≢ IRQV → bitsOf i ≡ 2 ^ n - 1 → x < 2 ^ n → Sound (set m i x)
 low-sound i n x s h v e l = sound-set i x s h (cut-low i n x e l) (λ z. absurd (v z))
 
-pub write-latch : {m : List ℕ} (x : ℕ) → Sound m → x < 2 ^ 32 → Sound (set m WRITE x)
-unfolding bitsOf commonBits
-write-latch x s h = low-sound WRITE 32 x s (omega arith) (λ z. omega arith) refl h
+pub write-latch : {m : List ℕ} (x : ℕ) → Sound m → x < 2 ^ 32 → Sound (set m WRITE_LATCH x)
+unfolding bitsOf sharedBits
+write-latch x s h = low-sound WRITE_LATCH 32 x s (omega arith) (λ z. omega arith) refl h
 
-read-latch : {m : List ℕ} (x : ℕ) → Sound m → x < 2 ^ 32 → Sound (set m READ x)
-unfolding bitsOf commonBits
-read-latch x s h = low-sound READ 32 x s (omega arith) (λ z. omega arith) refl h
+read-latch : {m : List ℕ} (x : ℕ) → Sound m → x < 2 ^ 32 → Sound (set m READ_LATCH x)
+unfolding bitsOf sharedBits
+read-latch x s h = low-sound READ_LATCH 32 x s (omega arith) (λ z. omega arith) refl h
 
 pub pot-sound : {m : List ℕ} (p : ℕ) → Sound m → p ≤ 1023 → Sound (set m PAR p)
-unfolding bitsOf commonBits
+unfolding bitsOf sharedBits
 pot-sound p s h = low-sound PAR 10 p s (omega arith) (λ z. omega arith) refl (omega arith)
 
 -- ---- writing
@@ -84,10 +84,10 @@ stored-sound m Nothing x s h = s
 pub write-sound : (m : List ℕ) (r k b : ℕ) → Sound m → r < 16 → k < 4 → b < 256 → Sound (byteWritten m r k b)
 unfolding byteWritten
 write-sound m r k b s h d e =
-    let latch = withByte k b (getD m WRITE 0) in
+    let latch = withByte k b (getD m WRITE_LATCH 0) in
     either Sound (eqb k 3) _ _
     (λ _. write-latch 0 (stored-sound m (registerOf (getD m PAGE 0) r) latch s (inside (getD m PAGE 0) r h)) (omega arith))
-    (λ _. write-latch latch s (byte-lt k b (getD m WRITE 0) d e (word-lt m s WRITE (omega arith))))
+    (λ _. write-latch latch s (byte-lt k b (getD m WRITE_LATCH 0) d e (word-lt m s WRITE_LATCH (omega arith))))
 
 -- ---- reading
 
@@ -100,11 +100,11 @@ value-lt m Vector s h = word-lt m s IRQV (omega arith)
 value-lt m Nothing s h = omega arith
 
 -- a register in the read latch
-pub latched : (m : List ℕ) (register : Register) → Sound m → Inside register → Sound (set m READ (readAs m register))
+pub latched : (m : List ℕ) (register : Register) → Sound m → Inside register → Sound (set m READ_LATCH (readAs m register))
 latched m register s h = read-latch (readAs m register) s (value-lt m register s h)
 
 acknowledged-sound : (m : List ℕ) → Sound m → Sound (acknowledged m)
-unfolding acknowledged isVector bitsOf commonBits cut
+unfolding acknowledged isVector bitsOf sharedBits cut
 acknowledged-sound m s =
     let v = getD m IRQV 0 in
     let cr = voiceWord v CR in
@@ -130,5 +130,5 @@ unfolding byteRead
 read-sound m r k s h =
     let register = registerOf (getD m PAGE 0) r in
     either Sound (eqb k 0) _ _
-    (λ _. touched-sound (set m READ (readAs m register)) register (latched m register s (inside (getD m PAGE 0) r h)))
+    (λ _. touched-sound (set m READ_LATCH (readAs m register)) register (latched m register s (inside (getD m PAGE 0) r h)))
     (λ _. s)

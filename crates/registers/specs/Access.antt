@@ -9,7 +9,7 @@ use lib.ListN.{getD, set}
 use Rattle.answer.specs.Answer.{isDone, firstRefusal}
 use Rattle.answer.specs.declared.Answer.{Answer}
 use Rattle.answer.specs.declared.Answer.the-variants.{RecordLength, RecordInvalid, Address, Pot}
-use Rattle.machine.specs.Words.{PAR, READ}
+use Rattle.machine.specs.Words.{PAR, READ_LATCH}
 use Rattle.machine.specs.Check.{wrongLength, notValid}
 use Rattle.registers.specs.Registers.{byteOf, byteWritten, byteRead}
 
@@ -26,7 +26,7 @@ readRecord m a = cond (isDone (byteAnswer m a)) (byteRead m (a / 4) (a % 4)) m
 
 -- the byte of the read latch; 0 in a refusal
 unfoldable pub readByte : List ℕ → ℕ → ℕ
-readByte m a = cond (isDone (byteAnswer m a)) (byteOf (a % 4) (getD (readRecord m a) READ 0)) 0
+readByte m a = cond (isDone (byteAnswer m a)) (byteOf (a % 4) (getD (readRecord m a) READ_LATCH 0)) 0
 
 -- what a write promises, and a read
 pub record Writes (m : List ℕ) (a b : ℕ) (answer : Answer) (after : List ℕ) : Type 0 where

@@ -7,7 +7,7 @@ use mathlib.Core.List.{List}
 use lib.Dec.{eqb, ltb}
 use lib.ListN.{getD, set}
 use Rattle.control.specs.Control.{withBit, IRQ}
-use Rattle.machine.specs.Words.{VOICES, CR, START, O4N1, PAGE, IRQV, PAR, ACTV, MODE, W_ST, WRITE, READ, SUMS, NO_VOICE, voiceWord, cut}
+use Rattle.machine.specs.Words.{VOICES, CR, START, O4N1, PAGE, IRQV, PAR, ACTV, MODE, W_ST, WRITE_LATCH, READ_LATCH, SUMS, NO_INTERRUPT, voiceWord, cut}
 use Rattle.registers.specs.declared.Register.{Register}
 use Rattle.registers.specs.declared.Register.the-variants.{Word, Sum, Pot, Vector, Nothing}
 
@@ -61,8 +61,8 @@ stored m Nothing x = m
 -- byte k of register r is written: it goes into the write latch, and byte 3 then stores the latch and clears it
 unfoldable pub byteWritten : List ℕ → ℕ → ℕ → ℕ → List ℕ
 byteWritten m r k b =
-    let latch = withByte k b (getD m WRITE 0) in
-    cond (eqb k 3) (set (stored m (registerOf (getD m PAGE 0) r) latch) WRITE 0) (set m WRITE latch)
+    let latch = withByte k b (getD m WRITE_LATCH 0) in
+    cond (eqb k 3) (set (stored m (registerOf (getD m PAGE 0) r) latch) WRITE_LATCH 0) (set m WRITE_LATCH latch)
 
 -- ---- reading
 
@@ -78,7 +78,7 @@ readAs m Nothing = 0
 unfoldable pub acknowledged : List ℕ → List ℕ
 acknowledged m =
     let cr = voiceWord (getD m IRQV 0) CR in
-    cond (ltb (getD m IRQV 0) VOICES) (set (set m cr (withBit IRQ 0 (getD m cr 0))) IRQV NO_VOICE) m
+    cond (ltb (getD m IRQV 0) VOICES) (set (set m cr (withBit IRQ 0 (getD m cr 0))) IRQV NO_INTERRUPT) m
 
 -- what reading a register does besides
 unfoldable pub sideEffect : List ℕ → Register → List ℕ
@@ -92,4 +92,4 @@ sideEffect m Nothing = m
 unfoldable pub byteRead : List ℕ → ℕ → ℕ → List ℕ
 byteRead m r k =
     let register = registerOf (getD m PAGE 0) r in
-    cond (eqb k 0) (sideEffect (set m READ (readAs m register)) register) m
+    cond (eqb k 0) (sideEffect (set m READ_LATCH (readAs m register)) register) m

@@ -5,7 +5,7 @@ ghost use mathlib.Core.Path.{_≡_};
 ghost use mathlib.Core.Bool.{true};
 ghost use Prim.Native.Nat.{_<_};
 ghost use lib.ListN.{length, getD, set};
-ghost use Rattle.machine.specs.Words.{RECORD_WORDS, READ, valid};
+ghost use Rattle.machine.specs.Words.{RECORD_WORDS, READ_LATCH, valid};
 ghost use Rattle.registers.specs.Registers.{registerOf, byteOf, withByte, stored, byteWritten, readAs, sideEffect, byteRead};
 ghost use Rattle.registers.specs.Registers.{acknowledged};
 ghost use Rattle.registers.specs.Inside.{Inside};
@@ -76,9 +76,9 @@ pub fn set_pot(m: &mut [u32], value: u32) -> Answer
 fn refusal(m: &[u32], address: u32) -> Answer
     ensures { λ r. ⌜ r ≡ byteAnswer (now (m .entry)) address ⌝ }
 {
-    let a = machine::check(m);
-    let Answer::Done = a else {
-        return a;
+    let record = machine::check(m);
+    let Answer::Done = record else {
+        return record;
     };
     if 63 < address {
         return Answer::Address;
@@ -92,30 +92,30 @@ fn write_byte(m: &mut [u32], r: u32, k: u32, b: u8)
     requires { ⌜ (r < 16) × (k < 4) ⌝ }
     ensures { λ _. ⌜ now (m .exit) ≡ byteWritten (now (m .entry)) r k b ⌝ }
 {
-    let old = m[machine::WRITE];
+    let old = m[machine::WRITE_LATCH];
     let latch = with_byte(k, b, old);
     if k != 3 {
-        m[machine::WRITE] = latch;
+        m[machine::WRITE_LATCH] = latch;
         return;
     }
     let page = m[machine::PAGE];
     let register = decode(page, r);
     store(m, register, latch);
-    m[machine::WRITE] = 0;
+    m[machine::WRITE_LATCH] = 0;
 }
 
 // Byte k of register r is read.
 fn read_byte(m: &mut [u32], r: u32, k: u32) -> u8
     requires { ⌜ valid (now m) ≡ true ⌝ }
     requires { ⌜ (r < 16) × (k < 4) ⌝ }
-    ensures { λ b. ⌜ (now (m .exit) ≡ byteRead (now (m .entry)) r k) × (b ≡ byteOf k (getD (now (m .exit)) READ 0)) ⌝ }
+    ensures { λ b. ⌜ (now (m .exit) ≡ byteRead (now (m .entry)) r k) × (b ≡ byteOf k (getD (now (m .exit)) READ_LATCH 0)) ⌝ }
 {
     if k == 0 {
         let page = m[machine::PAGE];
         let register = decode(page, r);
         load(m, register);
     }
-    let latch = m[machine::READ];
+    let latch = m[machine::READ_LATCH];
     byte(k, latch)
 }
 
@@ -176,25 +176,25 @@ fn store(m: &mut [u32], register: Register, x: u32)
 fn load(m: &mut [u32], register: Register)
     requires { ⌜ valid (now m) ≡ true ⌝ }
     requires { ⌜ Inside register ⌝ }
-    ensures { λ _. ⌜ now (m .exit) ≡ sideEffect (set (now (m .entry)) READ (readAs (now (m .entry)) register)) register ⌝ }
+    ensures { λ _. ⌜ now (m .exit) ≡ sideEffect (set (now (m .entry)) READ_LATCH (readAs (now (m .entry)) register)) register ⌝ }
 {
     match register {
         Register::Word(i) => {
-            m[machine::READ] = m[i];
+            m[machine::READ_LATCH] = m[i];
         }
         Register::Sum(_) => {
-            m[machine::READ] = 0;
+            m[machine::READ_LATCH] = 0;
         }
         Register::Pot => {
-            m[machine::READ] = m[machine::PAR];
+            m[machine::READ_LATCH] = m[machine::PAR];
             m[machine::PAR] = 1023;
         }
         Register::Vector => {
-            m[machine::READ] = m[machine::IRQV];
+            m[machine::READ_LATCH] = m[machine::IRQV];
             acknowledge(m);
         }
         Register::Nothing => {
-            m[machine::READ] = 0;
+            m[machine::READ_LATCH] = 0;
         }
     }
 }
@@ -209,7 +209,7 @@ fn acknowledge(m: &mut [u32])
         let i = machine::VOICE_WORDS * voice as usize + machine::CR;
         let cr = m[i];
         m[i] = control::with_bit(control::IRQ, 0, cr);
-        m[machine::IRQV] = machine::NO_VOICE;
+        m[machine::IRQV] = machine::NO_INTERRUPT;
     }
 }
 

@@ -17,7 +17,7 @@ use lib.Seq.{getD-set-same, getD-set-other}
 use borrow.Author.Tests.{eq-eqb, ne-eqb, lt-ltb, le-ltb}
 use Rattle.numbers.proofs.Tests.{cases}
 use Rattle.answer.specs.declared.Answer.the-variants.{Done}
-use Rattle.machine.specs.Words.{START, O4N1, PAGE, WRITE, ACTV, voiceWord, commonBits, bitsOf, cut, valid}
+use Rattle.machine.specs.Words.{START, O4N1, PAGE, WRITE_LATCH, ACTV, voiceWord, sharedBits, bitsOf, cut, valid}
 use Rattle.machine.proofs.Valid.{Sound, sound}
 use Rattle.sample.specs.Sample.{MOST_MEMORY_WORDS}
 use Rattle.registers.specs.Registers.{registerOf, lowPage, highPage, byteOf, withByte}
@@ -103,12 +103,12 @@ named v j h k = cases j START _
 
 -- PAGE after its lowest byte was written
 page-after : {m : List ℕ} (b : ℕ) → Sound m → b < 128 → getD (after m (Write (4 * 15 + 3) b)) PAGE 0 ≡ b
-unfolding cut bitsOf commonBits withByte
+unfolding cut bitsOf sharedBits withByte
 page-after {m} b s h =
-    let x = withByte 3 b (getD m WRITE 0) in
+    let x = withByte 3 b (getD m WRITE_LATCH 0) in
     let z = cut PAGE x in
     rw (last-written 15 b PAGE s (lit< tt) (page-named (getD m PAGE 0)))
-    (getD-set-other (set m PAGE z) WRITE PAGE 0 0 (λ e. omega arith) ∙ getD-set-same m PAGE z 0 (omega (arith, s .size)) ∙ and-mask x 7 ∙ omega arith)
+    (getD-set-other (set m PAGE z) WRITE_LATCH PAGE 0 0 (λ e. omega arith) ∙ getD-set-same m PAGE z 0 (omega (arith, s .size)) ∙ and-mask x 7 ∙ omega arith)
 
 pub one-write : {m : List ℕ} (p : Put) → Sound m → Fits p → Between m idle (writes p) (p ∷ [])
 unfolding writes

@@ -15,10 +15,10 @@ use lib.Seq.{getD-set-other}
 use borrow.Author.Tests.{ne-eqb, lt-ltb}
 use Rattle.control.specs.Control.{bitOf, withBit, IRQ}
 use Rattle.control.proofs.Agree.{put-apart}
-use Rattle.machine.specs.Words.{PAGE, IRQV, ACTV, SLOW, SUMS, voiceBits, commonBits, bitsOf, cut, cutTo, isVector, valid, RECORD_WORDS}
+use Rattle.machine.specs.Words.{PAGE, IRQV, ACTV, SLOW, SUMS, voiceBits, sharedBits, bitsOf, cut, cutTo, isVector, valid, RECORD_WORDS}
 use Rattle.machine.specs.Voices.{voiceAt, putVoice}
 use Rattle.machine.specs.Reset.{resetWord, wordsFrom, fresh}
-use Rattle.machine.proofs.Parts.{voice-same, voice-set-above, put-length, put-same, put-other, put-out}
+use Rattle.machine.proofs.Parts.{voice-same, voice-set-shared, put-length, put-same, put-other, put-out}
 use Rattle.machine.proofs.Fresh.{fresh-length, fresh-at}
 use Rattle.machine.proofs.Valid.{sound}
 use Rattle.registers.specs.Registers.{registerOf, lowPage}
@@ -48,11 +48,11 @@ unfoldable pub other : List ℕ
 other = machine 5 768 90 128
 
 one-valid : valid one ≡ true
-unfolding one machine note putVoice fresh wordsFrom resetWord valid cutTo cut bitsOf commonBits isVector
+unfolding one machine note putVoice fresh wordsFrom resetWord valid cutTo cut bitsOf sharedBits isVector
 one-valid = refl
 
 other-valid : valid other ≡ true
-unfolding other machine note putVoice fresh wordsFrom resetWord valid cutTo cut bitsOf commonBits isVector
+unfolding other machine note putVoice fresh wordsFrom resetWord valid cutTo cut bitsOf sharedBits isVector
 other-valid = refl
 
 -- ---- voices 3 and 5 exchanged
@@ -94,12 +94,12 @@ module _ (v CR page vector : ℕ) (h : v < 32) where
   size : length (putVoice fresh v (note CR)) ≡ RECORD_WORDS
   size = put-length fresh v (note CR) note-long note-fits ∙ fresh-length
 
-  -- the words above are at none of the voices
+  -- the shared words are none of the voices'
   below : (u : ℕ) → u < 32 → voiceAt (machine v CR page vector) u ≡ voiceAt (putVoice fresh v (note CR)) u
   unfolding machine
   below u k =
-      voice-set-above (set (putVoice fresh v (note CR)) PAGE page) u IRQV vector (length-set (putVoice fresh v (note CR)) PAGE page ∙ size) k (omega arith)
-      ∙ voice-set-above (putVoice fresh v (note CR)) u PAGE page size k (omega arith)
+      voice-set-shared (set (putVoice fresh v (note CR)) PAGE page) u IRQV vector (length-set (putVoice fresh v (note CR)) PAGE page ∙ size) k (omega arith)
+      ∙ voice-set-shared (putVoice fresh v (note CR)) u PAGE page size k (omega arith)
 
   at-note : voiceAt (machine v CR page vector) v ≡ note CR
   at-note = below v h ∙ put-same fresh v (note CR) note-long note-fits

@@ -17,7 +17,7 @@ use borrow.Author.Tests.{eqb-true, eq-eqb, ne-eqb, le-ltb}
 use Rattle.numbers.proofs.Tests.{either, split, cases}
 use Rattle.answer.specs.Answer.{isDone}
 use Rattle.answer.specs.declared.Answer.the-variants.{Address}
-use Rattle.machine.specs.Words.{CR, PAGE, IRQV, PAR, ACTV, SLOW, WRITE, READ, SUMS, voiceWord, cut, isVector, RECORD_WORDS}
+use Rattle.machine.specs.Words.{CR, PAGE, IRQV, PAR, ACTV, SLOW, WRITE_LATCH, READ_LATCH, SUMS, voiceWord, cut, isVector, RECORD_WORDS}
 use Rattle.machine.specs.Voices.{voiceAt}
 use Rattle.machine.proofs.Parts.{voice-word, voice-length, voice-same, voice-set, voice-set-out}
 use Rattle.machine.proofs.Valid.{Sound, sound, is-valid, bits-voice, cut-again, sound-set}
@@ -107,8 +107,8 @@ quiet {m} {m′} i u s s′ f = record {
 but-set : (m : List ℕ) (i x : ℕ) → AllBut i m (set m i x)
 but-set m i x k d = getD-set-other m i k x 0 d
 
-latch-moved : {m : List ℕ} (x : ℕ) → Sound m → x < 2 ^ 32 → Moved m [] (set m WRITE x)
-latch-moved {m} x s h = quiet WRITE (lit≤ tt, lit< tt, λ e. omega arith, λ e. omega arith) s (write-latch x s h) (but-set m WRITE x)
+latch-moved : {m : List ℕ} (x : ℕ) → Sound m → x < 2 ^ 32 → Moved m [] (set m WRITE_LATCH x)
+latch-moved {m} x s h = quiet WRITE_LATCH (lit≤ tt, lit< tt, λ e. omega arith, λ e. omega arith) s (write-latch x s h) (but-set m WRITE_LATCH x)
 
 -- ---- a write of a voice
 
@@ -141,9 +141,9 @@ put-moved {m} v j x s hv hj =
 record Quiet (m m′ : List ℕ) : Type 0 where
   moved : Moved m [] m′
   page : getD m′ PAGE 0 ≡ getD m PAGE 0
-  latch : getD m′ WRITE 0 ≡ getD m WRITE 0
+  latch : getD m′ WRITE_LATCH 0 ≡ getD m WRITE_LATCH 0
 
--- the control register that the vector names is none of the words above
+-- the control register that the vector names is none of the shared words
 vector-below : {m : List ℕ} (i : ℕ) → Sound m → PAGE ≤ i → i < RECORD_WORDS → i ≢ voiceWord (getD m IRQV 0) CR
 unfolding isVector
 vector-below {m} i s h k e = cases (getD m IRQV 0) 32 ⊥
@@ -168,10 +168,10 @@ read-quiet {m} a s = record {
     sums = λ c h. above (SUMS + c) (λ e. omega arith) (λ e. omega arith) (λ e. omega arith) (omega arith) (omega arith);
   };
   page = above PAGE (λ e. omega arith) (λ e. omega arith) (λ e. omega arith) (lit≤ tt) (lit< tt);
-  latch = above WRITE (λ e. omega arith) (λ e. omega arith) (λ e. omega arith) (lit≤ tt) (lit< tt);
+  latch = above WRITE_LATCH (λ e. omega arith) (λ e. omega arith) (λ e. omega arith) (lit≤ tt) (lit< tt);
 }
   where
-    above : (i : ℕ) → i ≢ READ → i ≢ PAR → i ≢ IRQV → PAGE ≤ i → i < RECORD_WORDS → getD (readRecord m a) i 0 ≡ getD m i 0
+    above : (i : ℕ) → i ≢ READ_LATCH → i ≢ PAR → i ≢ IRQV → PAGE ≤ i → i < RECORD_WORDS → getD (readRecord m a) i 0 ≡ getD m i 0
     above i l p q h k = read-keeps m a i l p q (vector-below i s h k)
 
 pot-keeps : (m : List ℕ) (p : ℕ) → AllBut PAR m (potRecord m p)
@@ -185,7 +185,7 @@ pot-quiet {m} p s =
     record {
       moved = quiet PAR (lit≤ tt, lit< tt, λ e. omega arith, λ e. omega arith) s (sound (potRecord m p) (pot-valid m p (is-valid m s))) f;
       page = f PAGE (λ e. omega arith);
-      latch = f WRITE (λ e. omega arith);
+      latch = f WRITE_LATCH (λ e. omega arith);
     }
 
 no-move : {m : List ℕ} → Sound m → Moved m [] m
@@ -219,21 +219,21 @@ top-last : (b x : ℕ) → withByte 3 b x ≡ 256 * topOf 3 x + b
 unfolding topOf withByte
 top-last b x = omega arith
 
-latch-lt : {m : List ℕ} → Sound m → getD m WRITE 0 < 2 ^ 32
-latch-lt {m} s = word-lt m s WRITE (lit< tt)
+latch-lt : {m : List ℕ} → Sound m → getD m WRITE_LATCH 0 < 2 ^ 32
+latch-lt {m} s = word-lt m s WRITE_LATCH (lit< tt)
 
 -- bytes 0 to 2 of a register change the latch alone
-byte-written : {m : List ℕ} (r k b : ℕ) → Sound m → r < 16 → k < 3 → after m (Write (4 * r + k) b) ≡ set m WRITE (withByte k b (getD m WRITE 0))
+byte-written : {m : List ℕ} (r k b : ℕ) → Sound m → r < 16 → k < 3 → after m (Write (4 * r + k) b) ≡ set m WRITE_LATCH (withByte k b (getD m WRITE_LATCH 0))
 unfolding after byteWritten
 byte-written {m} r k b s hr hk = write-byte m r k b s hr (omega arith) ∙ rw (ne-eqb k 3 (λ e. omega arith))
 
 byte-moved : {m : List ℕ} (r k b : ℕ) → Sound m → r < 16 → k < 3 → b < 256 → Moved m [] (after m (Write (4 * r + k) b))
 byte-moved {m} r k b s hr hk hb =
-    rw (byte-written r k b s hr hk) (latch-moved (withByte k b (getD m WRITE 0)) s (byte-lt k b (getD m WRITE 0) (omega arith) hb (latch-lt s)))
+    rw (byte-written r k b s hr hk) (latch-moved (withByte k b (getD m WRITE_LATCH 0)) s (byte-lt k b (getD m WRITE_LATCH 0) (omega arith) hb (latch-lt s)))
 
 -- byte 3 stores the latch, and clears it
 pub last-written : {m : List ℕ} (r b i : ℕ) → Sound m → r < 16 → registerOf (getD m PAGE 0) r ≡ Word i
-    → after m (Write (4 * r + 3) b) ≡ set (set m i (cut i (withByte 3 b (getD m WRITE 0)))) WRITE 0
+    → after m (Write (4 * r + 3) b) ≡ set (set m i (cut i (withByte 3 b (getD m WRITE_LATCH 0)))) WRITE_LATCH 0
 unfolding after byteWritten stored
 last-written {m} r b i s hr e = write-byte m r 3 b s hr (lit< tt) ∙ rw e
 
@@ -246,7 +246,7 @@ page-moved : {m : List ℕ} (k b : ℕ) → Sound m → k < 4 → b < 256 → Mo
 page-moved {m} k b s hk hb = cases k 3 (Moved m [] (after m (Write (4 * 15 + k) b)))
     (λ l. byte-moved 15 k b s (lit< tt) l hb)
     (λ l.
-    let x = withByte 3 b (getD m WRITE 0) in
+    let x = withByte 3 b (getD m WRITE_LATCH 0) in
     let e : k ≡ 3 = omega arith in
     let p = quiet PAGE (lit≤ tt, lit< tt, λ e. omega arith, λ e. omega arith) s (sound-set PAGE (cut PAGE x) s (lit< tt) (cut-again PAGE x) (λ z. absurd (let y : ⊥ = omega arith in y))) (but-set m PAGE (cut PAGE x)) in
     rw (e, last-written 15 b PAGE s (lit< tt) (page-named (getD m PAGE 0))) (moved-then s p (latch-moved 0 (p .sound) (lit< tt))))
@@ -259,7 +259,7 @@ record Begun (m : List ℕ) (r v j k x : ℕ) : Type 0 where
   hv : v < 32
   hj : j < 20
   named : registerOf (getD m PAGE 0) r ≡ Word (voiceWord v j)
-  top : topOf k (getD m WRITE 0) ≡ x
+  top : topOf k (getD m WRITE_LATCH 0) ≡ x
 
 abbrev In : List ℕ → Phase → Type 0
 In m idle = Unit {0}
@@ -271,20 +271,20 @@ in-quiet (begun r v j k x) q i = record { hr = i .hr; hv = i .hv; hj = i .hj; na
 
 one-byte-more : {m : List ℕ} (r v j k x b : ℕ) → Sound m → Begun m r v j k x → k < 3 → b < 256 → Begun (after m (Write (4 * r + k) b)) r v j (k + 1) (256 * x + b)
 one-byte-more {m} r v j k x b s i hk hb =
-    let y = withByte k b (getD m WRITE 0) in
+    let y = withByte k b (getD m WRITE_LATCH 0) in
     rw (byte-written r k b s (i .hr) hk)
     (record {
       hr = i .hr;
       hv = i .hv;
       hj = i .hj;
-      named = rw (getD-set-other m WRITE PAGE y 0 (λ e. omega arith)) (i .named);
-      top = rw (getD-set-same m WRITE y 0 (omega (arith, s .size))) (top-next k b (getD m WRITE 0) hk hb (latch-lt s) ∙ ap (λ (n : ℕ). 256 * n + b) (i .top));
+      named = rw (getD-set-other m WRITE_LATCH PAGE y 0 (λ e. omega arith)) (i .named);
+      top = rw (getD-set-same m WRITE_LATCH y 0 (omega (arith, s .size))) (top-next k b (getD m WRITE_LATCH 0) hk hb (latch-lt s) ∙ ap (λ (n : ℕ). 256 * n + b) (i .top));
     })
 
 last-moved : {m : List ℕ} (r v j x b : ℕ) → Sound m → Begun m r v j 3 x → Moved m (record { voice = v; word = j; number = 256 * x + b } ∷ []) (after m (Write (4 * r + 3) b))
 last-moved {m} r v j x b s i =
     let p = put-moved v j (256 * x + b) s (i .hv) (i .hj) in
-    rw (last-written r b (voiceWord v j) s (i .hr) (i .named), top-last b (getD m WRITE 0), i .top) (moved-then s p (latch-moved 0 (p .sound) (lit< tt)))
+    rw (last-written r b (voiceWord v j) s (i .hr) (i .named), top-last b (getD m WRITE_LATCH 0), i .top) (moved-then s p (latch-moved 0 (p .sound) (lit< tt)))
 
 stretch : {m : List ℕ} {φ : Phase} {t : List Call} {ps : List Put} → Sound m → In m φ → Between m φ t ps → Moved m ps (run m t)
 unfolding run
@@ -303,7 +303,7 @@ stretch s i (paging k b hk hb d) =
     moved-then s q (stretch (q .sound) tt d)
 stretch {m} s i (first r v j b hr hv hj hb e d) =
     let q = byte-moved r 0 b s hr (lit< tt) hb in
-    let o = rw (zero-add b) at (one-byte-more r v j 0 0 b s (record { hr = hr; hv = hv; hj = hj; named = e; top = top-none (getD m WRITE 0) (latch-lt s) }) (lit< tt) hb) in
+    let o = rw (zero-add b) at (one-byte-more r v j 0 0 b s (record { hr = hr; hv = hv; hj = hj; named = e; top = top-none (getD m WRITE_LATCH 0) (latch-lt s) }) (lit< tt) hb) in
     moved-then s q (stretch (q .sound) o d)
 stretch s i (next {r = r} {v = v} {j = j} {k = k} {x = x} b hk hb d) =
     let q = byte-moved r k b s (i .hr) hk hb in

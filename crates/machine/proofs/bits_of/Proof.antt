@@ -2,7 +2,7 @@
 use mathlib.Core.Path.{_≡_, sym}
 use borrow.Author.Needs.{needs}
 use borrow.Author.Tests.{lt-ltb, le-ltb}
-use Rattle.machine.specs.Words.{bitsOf, voiceBits, commonBits}
+use Rattle.machine.specs.Words.{bitsOf, voiceBits, sharedBits}
 use Rattle.machine.proofs.bits_of.Statement.{statement}
 use Rattle.machine.proofs.bits_of.Tie as tie
 
@@ -11,7 +11,7 @@ unfolding bitsOf
 returns c = simp (lt-ltb _ _ (c .if1 .taken))
 
 returns-2 : tie.Need-returns-2
-unfolding bitsOf commonBits
+unfolding bitsOf sharedBits
 returns-2 c = simp (le-ltb _ _ (c .if1 .left))
 
 pub bits-of-spec : {M : Type 1} → statement M

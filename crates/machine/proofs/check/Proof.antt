@@ -8,7 +8,7 @@ use lib.ListN.{getD}
 use borrow.Author.Needs.{needs}
 use borrow.Author.Tests.{eq-eqb, ne-eqb, lt-ltb, le-ltb}
 use Rattle.answer.specs.declared.Answer.the-variants.{Done, RecordInvalid}
-use Rattle.machine.specs.Words.{voiceBits, commonBits, isVector, IRQV}
+use Rattle.machine.specs.Words.{voiceBits, sharedBits, isVector, IRQV}
 use Rattle.machine.specs.Kept.{gatheredKept, clear, Lanes}
 use Rattle.machine.specs.Check.{checked}
 use Rattle.machine.proofs.Kept.{four-lanes}
@@ -39,7 +39,7 @@ loop-again c =
     (omega arith, rw e (c .look-at-four .ensures))
 
 look-at-rest-requires : tie.Need-look-at-rest-requires Inv-loop μ-loop
-unfolding commonBits
+unfolding sharedBits
 look-at-rest-requires c κs =
     let e : 4 * c .before .before .before .loop .g ≡ 16 = omega arith in
     (omega arith, (refl, rw e at (c .before .before .before .loop .inv .1)))

@@ -5,24 +5,24 @@ use mathlib.Core.Bool.{_&&_, and-true}
 use Prim.Native.Nat.{_+_, _-_, _<_, _≤_}
 use native.Mathlib.Omega.{arith}
 use borrow.Author.Needs.{needs}
-use Rattle.machine.specs.Words.{bitsOf, commonBits}
-use Rattle.machine.specs.Kept.{gatheredKept, sumsKept, commonKept, Lanes}
+use Rattle.machine.specs.Words.{bitsOf, sharedBits}
+use Rattle.machine.specs.Kept.{gatheredKept, sumsKept, sharedKept, Lanes}
 use Rattle.machine.proofs.Kept.{one-more-of-all, last-bits, three-sums}
 use Rattle.machine.proofs.look_at_rest.Statement.{statement}
 use Rattle.machine.proofs.look_at_rest.Tie as tie
 
 abbrev Inv-loop : tie.InvT-loop
-Inv-loop m kept stray₀ l₀ stray l = (l ≤ 4) × Lanes stray (gatheredKept m (16 + l) && sumsKept m l && commonKept m l)
+Inv-loop m kept stray₀ l₀ stray l = (l ≤ 4) × Lanes stray (gatheredKept m (16 + l) && sumsKept m l && sharedKept m l)
 
 abbrev μ-loop : tie.MeasureT-loop
 μ-loop m kept stray₀ l₀ stray l = 4 - l
 
 loop-holds : tie.Need-loop-holds Inv-loop μ-loop
-unfolding sumsKept commonKept
+unfolding sumsKept sharedKept
 loop-holds c = (omega arith, simp and-true (c .before .pre .1 .1))
 
 loop-again : tie.Need-loop-again Inv-loop μ-loop
-unfolding bitsOf commonBits
+unfolding bitsOf sharedBits
 loop-again c =
     let g = c .before .before .before .before .before .before .before .before .before .before in
     let h = g .before .before .loop in

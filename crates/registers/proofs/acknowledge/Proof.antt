@@ -24,7 +24,7 @@ with-bit-requires : tie.Need-with-bit-requires
 with-bit-requires c κs =
     let s = c .before .before .before .before in
     let m = s .args .m .now in
-    (omega arith, (omega arith, cr-lt m (fine s) (getD m IRQV 0) (c .before .if1 .taken)))
+    (omega arith, (omega arith, cr-lt m (fine s) _ (c .before .if1 .taken)))
 
 slice-write-m : tie.Need-slice-write-m
 slice-write-m c = omega (arith, fine (c .before .before .before .before .before) .size)
