@@ -39,7 +39,7 @@ forward CR FC START END ACCUM =
     (record { accum = word 32 t; cr = CR })
     (forwardEvent (flagOf BLE CR) (flagOf LPE CR) (raised CR) START END (t -ℤ pos END))
 
--- reverse: none where LEI is 1 or the target is not past START, which is below it
+-- in reverse: no event where LEI is 1 or the target is not below START
 unfoldable pub reverse : ℕ → ℕ → ℕ → ℕ → ℕ → Place
 reverse CR FC START END ACCUM =
     let t = pos ACCUM -ℤ pos FC in

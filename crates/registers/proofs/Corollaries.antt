@@ -14,7 +14,7 @@ use lib.Seq.{getD-set-same, getD-set-other}
 use borrow.Author.Tests.{ltb-true}
 use Rattle.numbers.proofs.Tests.{either}
 use Rattle.answer.specs.Answer.{isDone}
-use Rattle.answer.specs.declared.Answer.the-variants.{Pot as PotRefused}
+use Rattle.answer.specs.declared.Answer.the-variants.{Pot}
 use Rattle.control.specs.Control.{IRQ, bitOf, withBit}
 use Rattle.control.proofs.Bits.{read-other}
 use Rattle.machine.specs.Words.{CR, PAGE, IRQV, PAR, WRITE_LATCH, READ_LATCH, voiceWord, cut, valid, RECORD_WORDS}
@@ -22,8 +22,8 @@ use Rattle.machine.specs.Voices.{voiceAt}
 use Rattle.machine.proofs.Parts.{voice-set, voice-set-out}
 use Rattle.machine.proofs.Valid.{Sound, sound, is-valid}
 use Rattle.registers.specs.declared.Register.{Register}
-use Rattle.registers.specs.declared.Register.the-variants.{Word, Sum, Pot, Vector, Nothing}
-use Rattle.registers.specs.Registers.{registerOf, stored, byteWritten, readAs, acknowledged, sideEffect, byteRead}
+use Rattle.registers.specs.declared.Register.the-variants.{Word, Sum, Par, Irqv, Nothing}
+use Rattle.registers.specs.Registers.{registerOf, stored, writtenTo, readAs, acknowledged, sideEffect, readFrom}
 use Rattle.registers.specs.Access.{byteAnswer, writeRecord, readRecord, readByte, potAnswer, potRecord}
 use Rattle.registers.proofs.Laws.{asked-back, byte-done}
 use Rattle.registers.proofs.Valid.{write-sound, read-sound, pot-sound}
@@ -34,22 +34,22 @@ use Rattle.registers.proofs.Whole.{wholeWrite, whole-write}
 pub write-valid : (m : List ℕ) (a b : ℕ) → b < 256 → valid m ≡ true → valid (writeRecord m a b) ≡ true
 unfolding writeRecord
 write-valid m a b h v =
-    either (λ (n : List ℕ). valid n ≡ true) (isDone (byteAnswer m a)) (byteWritten m (a / 4) (a % 4) b) m
-    (λ d. let p = byte-done m a d .1 in is-valid (byteWritten m (a / 4) (a % 4) b) (write-sound m (a / 4) (a % 4) b (sound m v) (omega arith) (omega arith) h))
+    either (λ (n : List ℕ). valid n ≡ true) (isDone (byteAnswer m a)) (writtenTo m (a / 4) (a % 4) b) m
+    (λ d. let p = byte-done m a d .1 in is-valid (writtenTo m (a / 4) (a % 4) b) (write-sound m (a / 4) (a % 4) b (sound m v) (omega arith) (omega arith) h))
     (λ _. v)
 
 pub read-valid : (m : List ℕ) (a : ℕ) → valid m ≡ true → valid (readRecord m a) ≡ true
 unfolding readRecord
 read-valid m a v =
-    either (λ (n : List ℕ). valid n ≡ true) (isDone (byteAnswer m a)) (byteRead m (a / 4) (a % 4)) m
-    (λ d. let p = byte-done m a d .1 in is-valid (byteRead m (a / 4) (a % 4)) (read-sound m (a / 4) (a % 4) (sound m v) (omega arith)))
+    either (λ (n : List ℕ). valid n ≡ true) (isDone (byteAnswer m a)) (readFrom m (a / 4) (a % 4)) m
+    (λ d. let p = byte-done m a d .1 in is-valid (readFrom m (a / 4) (a % 4)) (read-sound m (a / 4) (a % 4) (sound m v) (omega arith)))
     (λ _. v)
 
 pub pot-valid : (m : List ℕ) (p : ℕ) → valid m ≡ true → valid (potRecord m p) ≡ true
 unfolding potRecord potAnswer
 pot-valid m p v =
     either (λ (n : List ℕ). valid n ≡ true) (isDone (potAnswer m p)) (set m PAR p) m
-    (λ d. is-valid (set m PAR p) (pot-sound p (sound m v) (asked-back m 1023 p PotRefused refl d .1)))
+    (λ d. is-valid (set m PAR p) (pot-sound p (sound m v) (asked-back m 1023 p Pot refl d .1)))
     (λ _. v)
 
 -- ---- a refusal changes nothing, and a refused read gives 0
@@ -71,9 +71,9 @@ pot-refused m p h = rw h
 -- a fact of the record holds after a read if it holds of what a register's byte 0 leaves
 after-read : (P : List ℕ → Type 0) (m : List ℕ) (a : ℕ) → P m → (Sound m → (register : Register) → P (sideEffect (set m READ_LATCH (readAs m register)) register))
     → P (readRecord m a)
-unfolding readRecord byteRead
+unfolding readRecord readFrom
 after-read P m a h f =
-    either P (isDone (byteAnswer m a)) (byteRead m (a / 4) (a % 4)) m
+    either P (isDone (byteAnswer m a)) (readFrom m (a / 4) (a % 4)) m
     (λ d. either P (eqb (a % 4) 0) _ m (λ _. f (byte-done m a d .0) (registerOf (getD m PAGE 0) (a / 4))) (λ _. h))
     (λ _. h)
 
@@ -87,13 +87,13 @@ module _ (m : List ℕ) (i : ℕ) (not-vector : i ≢ IRQV) where
       (λ _. getD-set-other (set m cr x) IRQV i 128 0 not-vector ∙ getD-set-other m cr i x 0 h)
       (λ _. refl)
 
-  touched-keeps : (register : Register) → i ≢ PAR → i ≢ voiceWord (getD m IRQV 0) CR → getD (sideEffect m register) i 0 ≡ getD m i 0
+  side-effect-keeps : (register : Register) → i ≢ PAR → i ≢ voiceWord (getD m IRQV 0) CR → getD (sideEffect m register) i 0 ≡ getD m i 0
   unfolding sideEffect
-  touched-keeps (Word j) p h = refl
-  touched-keeps (Sum j) p h = refl
-  touched-keeps Pot p h = getD-set-other m PAR i 1023 0 p
-  touched-keeps Vector p h = acknowledged-keeps h
-  touched-keeps Nothing p h = refl
+  side-effect-keeps (Word j) p h = refl
+  side-effect-keeps (Sum j) p h = refl
+  side-effect-keeps Par p h = getD-set-other m PAR i 1023 0 p
+  side-effect-keeps Irqv p h = acknowledged-keeps h
+  side-effect-keeps Nothing p h = refl
 
 -- Every word is as it was, but for the read latch, PAR, IRQV and the control register of the voice that the vector names.
 pub read-keeps : (m : List ℕ) (a i : ℕ) → i ≢ READ_LATCH → i ≢ PAR → i ≢ IRQV → i ≢ voiceWord (getD m IRQV 0) CR → getD (readRecord m a) i 0 ≡ getD m i 0
@@ -101,7 +101,7 @@ read-keeps m a i l p q h = after-read (λ (n : List ℕ). getD n i 0 ≡ getD m 
     (λ _ register.
     let x = readAs m register in
     let same : getD (set m READ_LATCH x) IRQV 0 ≡ getD m IRQV 0 = getD-set-other m READ_LATCH IRQV x 0 (λ (z : IRQV ≡ READ_LATCH). omega arith) in
-    touched-keeps (set m READ_LATCH x) i q register p (subst (λ (v : ℕ). i ≢ voiceWord v CR) (sym same) h) ∙ getD-set-other m READ_LATCH i x 0 l)
+    side-effect-keeps (set m READ_LATCH x) i q register p (subst (λ (v : ℕ). i ≢ voiceWord v CR) (sym same) h) ∙ getD-set-other m READ_LATCH i x 0 l)
 
 module _ (m : List ℕ) (long : length m ≡ RECORD_WORDS) (v n : ℕ) (hv : v < 32) (other : n ≢ IRQ) where
   cr-bit : (j : ℕ) → j < RECORD_WORDS → Dec (voiceWord v CR ≡ j) → bitOf n (getD (set m j (withBit IRQ 0 (getD m j 0))) (voiceWord v CR) 0) ≡ bitOf n (getD m (voiceWord v CR) 0)
@@ -119,20 +119,20 @@ module _ (m : List ℕ) (long : length m ≡ RECORD_WORDS) (v n : ℕ) (hv : v <
       ap (bitOf n) (getD-set-other (set m cr x) IRQV (voiceWord v CR) 128 0 (λ z. omega arith)) ∙ cr-bit cr (omega arith) (ℕ-discrete (voiceWord v CR) cr))
       (λ _. refl)
 
-  touched-bit : (register : Register) → bitOf n (getD (sideEffect m register) (voiceWord v CR) 0) ≡ bitOf n (getD m (voiceWord v CR) 0)
+  side-effect-bit : (register : Register) → bitOf n (getD (sideEffect m register) (voiceWord v CR) 0) ≡ bitOf n (getD m (voiceWord v CR) 0)
   unfolding sideEffect
-  touched-bit (Word j) = refl
-  touched-bit (Sum j) = refl
-  touched-bit Pot = ap (bitOf n) (getD-set-other m PAR (voiceWord v CR) 1023 0 (λ z. omega arith))
-  touched-bit Vector = acknowledged-bit
-  touched-bit Nothing = refl
+  side-effect-bit (Word j) = refl
+  side-effect-bit (Sum j) = refl
+  side-effect-bit Par = ap (bitOf n) (getD-set-other m PAR (voiceWord v CR) 1023 0 (λ z. omega arith))
+  side-effect-bit Irqv = acknowledged-bit
+  side-effect-bit Nothing = refl
 
 -- And of a control register every bit but the interrupt flag is as it was.
 pub read-flag : (m : List ℕ) (a v n : ℕ) → v < 32 → n ≢ IRQ → bitOf n (getD (readRecord m a) (voiceWord v CR) 0) ≡ bitOf n (getD m (voiceWord v CR) 0)
 read-flag m a v n h k = after-read (λ (l : List ℕ). bitOf n (getD l (voiceWord v CR) 0) ≡ bitOf n (getD m (voiceWord v CR) 0)) m a refl
     (λ s register.
     let x = readAs m register in
-    touched-bit (set m READ_LATCH x) (length-set m READ_LATCH x ∙ s .size) v n h k register
+    side-effect-bit (set m READ_LATCH x) (length-set m READ_LATCH x ∙ s .size) v n h k register
     ∙ ap (bitOf n) (getD-set-other m READ_LATCH (voiceWord v CR) x 0 (λ z. omega arith)))
 
 -- ---- a whole register write of a voice

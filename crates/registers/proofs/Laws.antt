@@ -15,7 +15,7 @@ use Rattle.machine.specs.Words.{PAR, READ_LATCH}
 use Rattle.machine.specs.Check.{wrongLength, notValid, checked}
 use Rattle.machine.proofs.Valid.{Sound}
 use Rattle.machine.proofs.Answers.{sound-tests, tests-sound}
-use Rattle.registers.specs.Registers.{byteOf, byteWritten, byteRead}
+use Rattle.registers.specs.Registers.{byteOf, writtenTo, readFrom}
 use Rattle.registers.specs.Access.{byteAnswer, writeRecord, readRecord, readByte, Writes, Reads, potAnswer, potRecord, SetsPot}
 
 -- ---- the answer
@@ -55,7 +55,7 @@ module _ (m : List ℕ) (a b : ℕ) where
   unfolding writeRecord
   writes-refused r e h = record { answers = sym e; leaves = rw (e, h) }
 
-  pub writes-done : (after : List ℕ) → byteAnswer m a ≡ Done → after ≡ byteWritten m (a / 4) (a % 4) b → Writes m a b Done after
+  pub writes-done : (after : List ℕ) → byteAnswer m a ≡ Done → after ≡ writtenTo m (a / 4) (a % 4) b → Writes m a b Done after
   unfolding writeRecord
   writes-done after e l = record { answers = sym e; leaves = rw e l }
 
@@ -64,7 +64,7 @@ module _ (m : List ℕ) (a : ℕ) where
   unfolding readRecord readByte
   reads-refused r e h = record { answers = sym e; gives = rw (e, h); leaves = rw (e, h) }
 
-  pub reads-done : (byte : ℕ) (after : List ℕ) → byteAnswer m a ≡ Done → after ≡ byteRead m (a / 4) (a % 4) → byte ≡ byteOf (a % 4) (getD after READ_LATCH 0)
+  pub reads-done : (byte : ℕ) (after : List ℕ) → byteAnswer m a ≡ Done → after ≡ readFrom m (a / 4) (a % 4) → byte ≡ byteOf (a % 4) (getD after READ_LATCH 0)
       → Reads m a Done byte after
   unfolding readRecord readByte
   reads-done byte after e l g = record { answers = sym e; gives = rw (e, ← l) g; leaves = rw e l }

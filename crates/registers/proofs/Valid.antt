@@ -16,8 +16,8 @@ use Rattle.control.proofs.Bits.{put-small}
 use Rattle.machine.specs.Words.{CR, PAGE, IRQV, PAR, WRITE_LATCH, READ_LATCH, voiceWord, voiceBits, sharedBits, bitsOf, cut, isVector, RECORD_WORDS}
 use Rattle.machine.proofs.Valid.{Sound, word-le, bits-voice, cut-again, sound-set}
 use Rattle.registers.specs.declared.Register.{Register}
-use Rattle.registers.specs.declared.Register.the-variants.{Word, Sum, Pot, Vector, Nothing}
-use Rattle.registers.specs.Registers.{registerOf, withByte, stored, byteWritten, readAs, acknowledged, sideEffect, byteRead}
+use Rattle.registers.specs.declared.Register.the-variants.{Word, Sum, Par, Irqv, Nothing}
+use Rattle.registers.specs.Registers.{registerOf, withByte, stored, writtenTo, readAs, acknowledged, sideEffect, readFrom}
 use Rattle.registers.specs.Inside.{Inside}
 use Rattle.registers.proofs.Inside.{inside}
 
@@ -77,12 +77,12 @@ stored-sound : (m : List ℕ) (register : Register) (x : ℕ) → Sound m → In
 unfolding stored
 stored-sound m (Word i) x s h = store-sound m i x s h
 stored-sound m (Sum i) x s h = store-sound m i x s h
-stored-sound m Pot x s h = s
-stored-sound m Vector x s h = s
+stored-sound m Par x s h = s
+stored-sound m Irqv x s h = s
 stored-sound m Nothing x s h = s
 
-pub write-sound : (m : List ℕ) (r k b : ℕ) → Sound m → r < 16 → k < 4 → b < 256 → Sound (byteWritten m r k b)
-unfolding byteWritten
+pub write-sound : (m : List ℕ) (r k b : ℕ) → Sound m → r < 16 → k < 4 → b < 256 → Sound (writtenTo m r k b)
+unfolding writtenTo
 write-sound m r k b s h d e =
     let latch = withByte k b (getD m WRITE_LATCH 0) in
     either Sound (eqb k 3) _ _
@@ -95,8 +95,8 @@ value-lt : (m : List ℕ) (register : Register) → Sound m → Inside register 
 unfolding readAs
 value-lt m (Word i) s h = word-lt m s i (h .0)
 value-lt m (Sum i) s h = omega arith
-value-lt m Pot s h = word-lt m s PAR (omega arith)
-value-lt m Vector s h = word-lt m s IRQV (omega arith)
+value-lt m Par s h = word-lt m s PAR (omega arith)
+value-lt m Irqv s h = word-lt m s IRQV (omega arith)
 value-lt m Nothing s h = omega arith
 
 -- a register in the read latch
@@ -117,18 +117,18 @@ acknowledged-sound m s =
     (omega arith) refl (λ _. refl))
     (λ _. s)
 
-touched-sound : (m : List ℕ) (register : Register) → Sound m → Sound (sideEffect m register)
+side-effect-sound : (m : List ℕ) (register : Register) → Sound m → Sound (sideEffect m register)
 unfolding sideEffect
-touched-sound m (Word i) s = s
-touched-sound m (Sum i) s = s
-touched-sound m Pot s = pot-sound 1023 s (omega arith)
-touched-sound m Vector s = acknowledged-sound m s
-touched-sound m Nothing s = s
+side-effect-sound m (Word i) s = s
+side-effect-sound m (Sum i) s = s
+side-effect-sound m Par s = pot-sound 1023 s (omega arith)
+side-effect-sound m Irqv s = acknowledged-sound m s
+side-effect-sound m Nothing s = s
 
-pub read-sound : (m : List ℕ) (r k : ℕ) → Sound m → r < 16 → Sound (byteRead m r k)
-unfolding byteRead
+pub read-sound : (m : List ℕ) (r k : ℕ) → Sound m → r < 16 → Sound (readFrom m r k)
+unfolding readFrom
 read-sound m r k s h =
     let register = registerOf (getD m PAGE 0) r in
     either Sound (eqb k 0) _ _
-    (λ _. touched-sound (set m READ_LATCH (readAs m register)) register (latched m register s (inside (getD m PAGE 0) r h)))
+    (λ _. side-effect-sound (set m READ_LATCH (readAs m register)) register (latched m register s (inside (getD m PAGE 0) r h)))
     (λ _. s)

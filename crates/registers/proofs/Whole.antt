@@ -15,20 +15,20 @@ use Rattle.machine.specs.Words.{PAGE, WRITE_LATCH, cut}
 use Rattle.machine.proofs.Valid.{Sound}
 use Rattle.machine.proofs.Answers.{check-valid}
 use Rattle.registers.specs.declared.Register.{Register}
-use Rattle.registers.specs.declared.Register.the-variants.{Word, Sum, Pot, Vector, Nothing}
-use Rattle.registers.specs.Registers.{registerOf, byteOf, withByte, stored, byteWritten}
+use Rattle.registers.specs.declared.Register.the-variants.{Word, Sum, Par, Irqv, Nothing}
+use Rattle.registers.specs.Registers.{registerOf, byteOf, withByte, stored, writtenTo}
 use Rattle.registers.specs.Access.{byteAnswer, writeRecord}
 use Rattle.registers.proofs.Laws.{asked-done, writes-done}
 use Rattle.registers.proofs.Valid.{word-lt, write-latch, byte-lt}
 
 -- ---- a byte written
 
-pub write-byte : (m : List ℕ) (r k b : ℕ) → Sound m → r < 16 → k < 4 → writeRecord m (4 * r + k) b ≡ byteWritten m r k b
+pub write-byte : (m : List ℕ) (r k b : ℕ) → Sound m → r < 16 → k < 4 → writeRecord m (4 * r + k) b ≡ writtenTo m r k b
 unfolding byteAnswer
 write-byte m r k b s h d =
     let e : (4 * r + k) / 4 ≡ r = omega arith in
     let f : (4 * r + k) % 4 ≡ k = omega arith in
-    let p = writes-done m (4 * r + k) b (byteWritten m r k b) (asked-done m 63 (4 * r + k) Address s (omega arith)) (rw (e, f)) in
+    let p = writes-done m (4 * r + k) b (writtenTo m r k b) (asked-done m 63 (4 * r + k) Address s (omega arith)) (rw (e, f)) in
     sym (p .leaves)
 
 -- ---- the latch: after byte k its bytes from the highest down to k are the word's
@@ -59,8 +59,8 @@ under : (m : List ℕ) (y : ℕ) (register : Register) (x : ℕ) → set (stored
 unfolding stored
 under m y (Word i) x = under-one m y i (cut i x) (eqb WRITE_LATCH i) refl
 under m y (Sum i) x = under-one m y i (cut i x) (eqb WRITE_LATCH i) refl
-under m y Pot x = set-set m WRITE_LATCH y 0
-under m y Vector x = set-set m WRITE_LATCH y 0
+under m y Par x = set-set m WRITE_LATCH y 0
+under m y Irqv x = set-set m WRITE_LATCH y 0
 under m y Nothing x = set-set m WRITE_LATCH y 0
 
 -- ---- the four bytes
@@ -83,14 +83,14 @@ module _ (m : List ℕ) (r x : ℕ) (s : Sound m) (h : r < 16) (small : x < 2 ^ 
 
   -- bytes 0 to 2 change the latch alone
   part : (y k : ℕ) → y < 2 ^ 32 → k < 3 → writeRecord (set m WRITE_LATCH y) (4 * r + k) (byteOf k x) ≡ set m WRITE_LATCH (withByte k (byteOf k x) y)
-  unfolding byteWritten
+  unfolding writtenTo
   part y k d e =
       let n : k ≡ 3 → ⊥ = λ z. omega arith in
       write-byte (set m WRITE_LATCH y) r k (byteOf k x) (write-latch y s d) h (omega arith)
       ∙ rw (ne-eqb k 3 n, set-set, getD-set-same m WRITE_LATCH y 0 in-record)
 
   last : (y : ℕ) → y < 2 ^ 32 → y / 256 ≡ x / 256 → writeRecord (set m WRITE_LATCH y) (4 * r + 3) (byteOf 3 x) ≡ set (stored m (registerOf (getD m PAGE 0) r) x) WRITE_LATCH 0
-  unfolding byteWritten
+  unfolding writtenTo
   last y d e =
       let n : PAGE ≢ WRITE_LATCH = λ z. omega arith in
       write-byte (set m WRITE_LATCH y) r 3 (byteOf 3 x) (write-latch y s d) h (omega arith)

@@ -11,7 +11,7 @@ use Rattle.answer.specs.declared.Answer.{Answer}
 use Rattle.answer.specs.declared.Answer.the-variants.{RecordLength, RecordInvalid, Address, Pot}
 use Rattle.machine.specs.Words.{PAR, READ_LATCH}
 use Rattle.machine.specs.Check.{wrongLength, notValid}
-use Rattle.registers.specs.Registers.{byteOf, byteWritten, byteRead}
+use Rattle.registers.specs.Registers.{byteOf, writtenTo, readFrom}
 
 -- ---- write and read
 
@@ -19,10 +19,10 @@ unfoldable pub byteAnswer : List ℕ → ℕ → Answer
 byteAnswer m a = firstRefusal ((wrongLength m, RecordLength) ∷ (notValid m, RecordInvalid) ∷ (ltb 63 a, Address) ∷ [])
 
 unfoldable pub writeRecord : List ℕ → ℕ → ℕ → List ℕ
-writeRecord m a b = cond (isDone (byteAnswer m a)) (byteWritten m (a / 4) (a % 4) b) m
+writeRecord m a b = cond (isDone (byteAnswer m a)) (writtenTo m (a / 4) (a % 4) b) m
 
 unfoldable pub readRecord : List ℕ → ℕ → List ℕ
-readRecord m a = cond (isDone (byteAnswer m a)) (byteRead m (a / 4) (a % 4)) m
+readRecord m a = cond (isDone (byteAnswer m a)) (readFrom m (a / 4) (a % 4)) m
 
 -- the byte of the read latch; 0 in a refusal
 unfoldable pub readByte : List ℕ → ℕ → ℕ

@@ -3,11 +3,11 @@ use mathlib.Core.Path.{_≡_}
 use Prim.Native.Nat.{_<_}
 use Rattle.machine.specs.Words.{IRQV, RECORD_WORDS}
 use Rattle.registers.specs.declared.Register.{Register}
-use Rattle.registers.specs.declared.Register.the-variants.{Word, Sum, Pot, Vector, Nothing}
+use Rattle.registers.specs.declared.Register.the-variants.{Word, Sum, Par, Irqv, Nothing}
 
 abbrev pub Inside : Register → Type 0
 Inside (Word i) = (i < RECORD_WORDS) × (i ≡ IRQV → ⊥)
 Inside (Sum i) = (i < RECORD_WORDS) × (i ≡ IRQV → ⊥)
-Inside Pot = Unit {0}
-Inside Vector = Unit {0}
+Inside Par = Unit {0}
+Inside Irqv = Unit {0}
 Inside Nothing = Unit {0}

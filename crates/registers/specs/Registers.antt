@@ -9,7 +9,7 @@ use lib.ListN.{getD, set}
 use Rattle.control.specs.Control.{withBit, IRQ}
 use Rattle.machine.specs.Words.{VOICES, CR, START, O4N1, PAGE, IRQV, PAR, ACTV, MODE, W_ST, WRITE_LATCH, READ_LATCH, SUMS, NO_INTERRUPT, voiceWord, cut}
 use Rattle.registers.specs.declared.Register.{Register}
-use Rattle.registers.specs.declared.Register.the-variants.{Word, Sum, Pot, Vector, Nothing}
+use Rattle.registers.specs.declared.Register.the-variants.{Word, Sum, Par, Irqv, Nothing}
 
 -- ---- the registers of a page
 
@@ -34,8 +34,8 @@ sumPage r = cond (ltb r 12) (Sum (SUMS + r)) Nothing
 -- Registers 13 to 15 are asked first, since they are the same on every page; what the pages above say of them is never asked.
 unfoldable pub registerOf : ℕ → ℕ → Register
 registerOf page r =
-    cond (eqb r 13) Pot
-    (cond (eqb r 14) Vector
+    cond (eqb r 13) Par
+    (cond (eqb r 14) Irqv
     (cond (eqb r 15) (Word PAGE)
     (cond (ltb page 32) (lowPage page r)
     (cond (ltb page 64) (highPage (page - 32) r) (sumPage r)))))
@@ -54,13 +54,13 @@ withByte k b x = x / 2 ^ (32 - 8 * k) * 2 ^ (32 - 8 * k) + b * 2 ^ (24 - 8 * k) 
 unfoldable pub stored : List ℕ → Register → ℕ → List ℕ
 stored m (Word i) x = set m i (cut i x)
 stored m (Sum i) x = set m i (cut i x)
-stored m Pot x = m
-stored m Vector x = m
+stored m Par x = m
+stored m Irqv x = m
 stored m Nothing x = m
 
 -- byte k of register r is written: it goes into the write latch, and byte 3 then stores the latch and clears it
-unfoldable pub byteWritten : List ℕ → ℕ → ℕ → ℕ → List ℕ
-byteWritten m r k b =
+unfoldable pub writtenTo : List ℕ → ℕ → ℕ → ℕ → List ℕ
+writtenTo m r k b =
     let latch = withByte k b (getD m WRITE_LATCH 0) in
     cond (eqb k 3) (set (stored m (registerOf (getD m PAGE 0) r) latch) WRITE_LATCH 0) (set m WRITE_LATCH latch)
 
@@ -70,8 +70,8 @@ byteWritten m r k b =
 unfoldable pub readAs : List ℕ → Register → ℕ
 readAs m (Word i) = getD m i 0
 readAs m (Sum i) = 0
-readAs m Pot = getD m PAR 0
-readAs m Vector = getD m IRQV 0
+readAs m Par = getD m PAR 0
+readAs m Irqv = getD m IRQV 0
 readAs m Nothing = 0
 
 -- The vector is read: a voice that it names loses its interrupt flag, and the vector is empty again.
@@ -84,12 +84,12 @@ acknowledged m =
 unfoldable pub sideEffect : List ℕ → Register → List ℕ
 sideEffect m (Word i) = m
 sideEffect m (Sum i) = m
-sideEffect m Pot = set m PAR 1023
-sideEffect m Vector = acknowledged m
+sideEffect m Par = set m PAR 1023
+sideEffect m Irqv = acknowledged m
 sideEffect m Nothing = m
 
 -- byte k of register r is read: byte 0 first puts the register in the read latch
-unfoldable pub byteRead : List ℕ → ℕ → ℕ → List ℕ
-byteRead m r k =
+unfoldable pub readFrom : List ℕ → ℕ → ℕ → List ℕ
+readFrom m r k =
     let register = registerOf (getD m PAGE 0) r in
     cond (eqb k 0) (sideEffect (set m READ_LATCH (readAs m register)) register) m

@@ -6,7 +6,7 @@ ghost use mathlib.Core.Bool.{true};
 ghost use Prim.Native.Nat.{_<_};
 ghost use lib.ListN.{length, getD, set};
 ghost use Rattle.machine.specs.Words.{RECORD_WORDS, READ_LATCH, valid};
-ghost use Rattle.registers.specs.Registers.{registerOf, byteOf, withByte, stored, byteWritten, readAs, sideEffect, byteRead};
+ghost use Rattle.registers.specs.Registers.{registerOf, byteOf, withByte, stored, writtenTo, readAs, sideEffect, readFrom};
 ghost use Rattle.registers.specs.Registers.{acknowledged};
 ghost use Rattle.registers.specs.Inside.{Inside};
 ghost use Rattle.registers.specs.Access.{byteAnswer, Writes, Reads, SetsPot};
@@ -19,8 +19,8 @@ pub enum Register {
     // A channel sum, which is written only.
     Sum(usize),
     // The pot result and the interrupt vector, which the host only reads.
-    Pot,
-    Vector,
+    Par,
+    Irqv,
     Nothing,
 }
 
@@ -90,7 +90,7 @@ fn refusal(m: &[u32], address: u32) -> Answer
 fn write_byte(m: &mut [u32], r: u32, k: u32, b: u8)
     requires { ⌜ length (now m) ≡ RECORD_WORDS ⌝ }
     requires { ⌜ (r < 16) × (k < 4) ⌝ }
-    ensures { λ _. ⌜ now (m .exit) ≡ byteWritten (now (m .entry)) r k b ⌝ }
+    ensures { λ _. ⌜ now (m .exit) ≡ writtenTo (now (m .entry)) r k b ⌝ }
 {
     let old = m[machine::WRITE_LATCH];
     let latch = with_byte(k, b, old);
@@ -108,7 +108,7 @@ fn write_byte(m: &mut [u32], r: u32, k: u32, b: u8)
 fn read_byte(m: &mut [u32], r: u32, k: u32) -> u8
     requires { ⌜ valid (now m) ≡ true ⌝ }
     requires { ⌜ (r < 16) × (k < 4) ⌝ }
-    ensures { λ b. ⌜ (now (m .exit) ≡ byteRead (now (m .entry)) r k) × (b ≡ byteOf k (getD (now (m .exit)) READ_LATCH 0)) ⌝ }
+    ensures { λ b. ⌜ (now (m .exit) ≡ readFrom (now (m .entry)) r k) × (b ≡ byteOf k (getD (now (m .exit)) READ_LATCH 0)) ⌝ }
 {
     if k == 0 {
         let page = m[machine::PAGE];
@@ -125,8 +125,8 @@ fn decode(page: u32, r: u32) -> Register
     ensures { λ p. ⌜ (p ≡ registerOf page r) × Inside p ⌝ }
 {
     match r {
-        13 => Register::Pot,
-        14 => Register::Vector,
+        13 => Register::Par,
+        14 => Register::Irqv,
         15 => Register::Word(machine::PAGE),
         _ => match page {
             0..=31 => match r {
@@ -166,8 +166,8 @@ fn store(m: &mut [u32], register: Register, x: u32)
         Register::Sum(i) => {
             m[i] = x & machine::bits_of(i);
         }
-        Register::Pot => {}
-        Register::Vector => {}
+        Register::Par => {}
+        Register::Irqv => {}
         Register::Nothing => {}
     }
 }
@@ -185,11 +185,11 @@ fn load(m: &mut [u32], register: Register)
         Register::Sum(_) => {
             m[machine::READ_LATCH] = 0;
         }
-        Register::Pot => {
+        Register::Par => {
             m[machine::READ_LATCH] = m[machine::PAR];
             m[machine::PAR] = 1023;
         }
-        Register::Vector => {
+        Register::Irqv => {
             m[machine::READ_LATCH] = m[machine::IRQV];
             acknowledge(m);
         }

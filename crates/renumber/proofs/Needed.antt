@@ -20,7 +20,7 @@ use Rattle.machine.specs.Words.{CR, ACTV, SUMS, voiceBits, sharedBits, bitsOf, 
 use Rattle.machine.specs.Voices.{voiceAt, putVoice}
 use Rattle.machine.specs.Check.{checked}
 use Rattle.machine.specs.Reset.{resetAnswer, resetWord, wordsFrom, fresh}
-use Rattle.registers.specs.Registers.{registerOf, lowPage, highPage, sumPage, withByte, stored, byteWritten, readAs, acknowledged, sideEffect, byteRead}
+use Rattle.registers.specs.Registers.{registerOf, lowPage, highPage, sumPage, withByte, stored, writtenTo, readAs, acknowledged, sideEffect, readFrom}
 use Rattle.registers.specs.Access.{byteAnswer, writeRecord, readRecord}
 use Rattle.voice.specs.Turn.{rampedLevels, withOutputs, moved, sampled, stoppedTurn, runningTurn, turnOf, lastOutputs}
 use Rattle.voice.specs.Voice.{wordsOf}
@@ -47,7 +47,7 @@ pub computed :
     × (loudness (outputs (set one ACTV 3) (frame 1000 ∷ [])) ≡ 15952)
     × (loudness (outputs (set other ACTV 3) (frame 1000 ∷ [])) ≡ 0)
     × (loudness (outputs (set other SUMS 1) (frame 1000 ∷ [])) ≡ 15953)
-unfolding frame loudness silence one other machine note putVoice voiceAt fresh wordsFrom resetWord valid cutTo cut bitsOf sharedBits isVector resetAnswer checked outputs outputFrom after byteAnswer writeRecord byteWritten stored withByte registerOf lowPage highPage sumPage frameAnswer frameRecord frameOutput played turns turnAt added addedTo signalled mixed putOut heard silenced closed wordsOf turnOf runningTurn stoppedTurn withOutputs moved rampedLevels lastOutputs sampled fetched fraction interpolated sampleOf firstAt secondAt floorDiv floorMod signed word held filtered pole3 pole4 lowPass highPass coefficient panned volumeOf mantissa exponent stepped forward reverse forwardEvent reverseEvent raised runs flagOf bitOf withBit
+unfolding frame loudness silence one other machine note putVoice voiceAt fresh wordsFrom resetWord valid cutTo cut bitsOf sharedBits isVector resetAnswer checked outputs outputFrom after byteAnswer writeRecord writtenTo stored withByte registerOf lowPage highPage sumPage frameAnswer frameRecord frameOutput played turns turnAt added addedTo signalled mixed putOut heard silenced closed wordsOf turnOf runningTurn stoppedTurn withOutputs moved rampedLevels lastOutputs sampled fetched fraction interpolated sampleOf firstAt secondAt floorDiv floorMod signed word held filtered pole3 pole4 lowPass highPass coefficient panned volumeOf mantissa exponent stepped forward reverse forwardEvent reverseEvent raised runs flagOf bitOf withBit
 computed = (refl, refl, refl, refl, refl, refl, refl)
 
 -- two runs that are not equally loud do not put out the same
@@ -76,5 +76,5 @@ sums-needed = differ (outputs one (frame 1000 ∷ [])) (outputs (set other SUMS 
 
 -- Interrupt flags are excepted: a read of the vector on one machine alone clears a flag there.
 pub flags-needed : bitOf IRQ (getD (run one []) (voiceWord 3 CR) 0) ≢ bitOf IRQ (getD (run one (Read 56 ∷ [])) (voiceWord 3 CR) 0)
-unfolding one machine note putVoice fresh wordsFrom resetWord valid cutTo cut bitsOf sharedBits isVector resetAnswer checked run after byteAnswer readRecord byteRead sideEffect acknowledged readAs registerOf bitOf withBit
+unfolding one machine note putVoice fresh wordsFrom resetWord valid cutTo cut bitsOf sharedBits isVector resetAnswer checked run after byteAnswer readRecord readFrom sideEffect acknowledged readAs registerOf bitOf withBit
 flags-needed e = let q : _≡_ {A = ℕ} 1 0 = e in omega arith

@@ -21,7 +21,7 @@ use Rattle.machine.specs.Words.{CR, PAGE, IRQV, PAR, ACTV, SLOW, WRITE_LATCH, R
 use Rattle.machine.specs.Voices.{voiceAt}
 use Rattle.machine.proofs.Parts.{voice-word, voice-length, voice-same, voice-set, voice-set-out}
 use Rattle.machine.proofs.Valid.{Sound, sound, is-valid, bits-voice, cut-again, sound-set}
-use Rattle.registers.specs.Registers.{registerOf, withByte, stored, byteWritten}
+use Rattle.registers.specs.Registers.{registerOf, withByte, stored, writtenTo}
 use Rattle.registers.specs.declared.Register.the-variants.{Word}
 use Rattle.registers.specs.Access.{byteAnswer, writeRecord, readRecord, potAnswer, potRecord}
 use Rattle.registers.proofs.Laws.{asked-far}
@@ -224,7 +224,7 @@ latch-lt {m} s = word-lt m s WRITE_LATCH (lit< tt)
 
 -- bytes 0 to 2 of a register change the latch alone
 byte-written : {m : List ℕ} (r k b : ℕ) → Sound m → r < 16 → k < 3 → after m (Write (4 * r + k) b) ≡ set m WRITE_LATCH (withByte k b (getD m WRITE_LATCH 0))
-unfolding after byteWritten
+unfolding after writtenTo
 byte-written {m} r k b s hr hk = write-byte m r k b s hr (omega arith) ∙ rw (ne-eqb k 3 (λ e. omega arith))
 
 byte-moved : {m : List ℕ} (r k b : ℕ) → Sound m → r < 16 → k < 3 → b < 256 → Moved m [] (after m (Write (4 * r + k) b))
@@ -234,7 +234,7 @@ byte-moved {m} r k b s hr hk hb =
 -- byte 3 stores the latch, and clears it
 pub last-written : {m : List ℕ} (r b i : ℕ) → Sound m → r < 16 → registerOf (getD m PAGE 0) r ≡ Word i
     → after m (Write (4 * r + 3) b) ≡ set (set m i (cut i (withByte 3 b (getD m WRITE_LATCH 0)))) WRITE_LATCH 0
-unfolding after byteWritten stored
+unfolding after writtenTo stored
 last-written {m} r b i s hr e = write-byte m r 3 b s hr (lit< tt) ∙ rw e
 
 -- any byte of PAGE

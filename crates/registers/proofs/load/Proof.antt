@@ -7,7 +7,7 @@ use lib.ListN.{length-set}
 use borrow.Author.Needs.{needs}
 use Rattle.machine.proofs.Valid.{Sound, sound, is-valid}
 use Rattle.machine.specs.Words.{RECORD_WORDS}
-use Rattle.registers.specs.declared.Register.the-variants.{Vector}
+use Rattle.registers.specs.declared.Register.the-variants.{Irqv}
 use Rattle.registers.specs.Registers.{readAs, sideEffect}
 use Rattle.registers.specs.Inside.{Inside}
 use Rattle.registers.proofs.Valid.{latched}
@@ -51,7 +51,7 @@ acknowledge-requires : tie.Need-acknowledge-requires
 unfolding readAs
 acknowledge-requires c κs =
     let s = c .before .before .before .before .before in
-    is-valid _ (latched (s .args .m .now) Vector (fine s) tt)
+    is-valid _ (latched (s .args .m .now) Irqv (fine s) tt)
 
 slice-write-m-6 : tie.Need-slice-write-m-6
 slice-write-m-6 c = omega (arith, fine (c .before .before .before) .size)

@@ -1,4 +1,4 @@
--- `registers::read_byte` meets its contract: the record where the two ways meet is the one that the definition opens. Assumes nothing.
+-- `registers::read_byte` meets its contract: the record where the two ways meet is the one that the definition reads from. Assumes nothing.
 use mathlib.Core.Path.{_≡_, ap, _∙_}
 use mathlib.Core.Logic.{⊎-elim}
 use native.Mathlib.Omega.{arith}
@@ -6,7 +6,7 @@ use lib.ListN.{length}
 use borrow.Author.Needs.{needs}
 use borrow.Author.Tests.{eq-eqb, ne-eqb}
 use Rattle.machine.proofs.Valid.{Sound, sound}
-use Rattle.registers.specs.Registers.{byteRead}
+use Rattle.registers.specs.Registers.{readFrom}
 use Rattle.registers.proofs.read_byte.Statement.{statement}
 use Rattle.registers.proofs.read_byte.Tie as tie
 
@@ -20,8 +20,8 @@ slice-read-page c = omega (arith, fine (c .before .before .before) .size)
 same : (c : tie.Joined1) → length (c .if1 .m) ≡ length (c .before .before .args .m .now)
 same c = ⊎-elim (λ w. ap length (w .7) ∙ w .4 .kept .0) (λ w. ap length (w .1)) (c .if1 .came)
 
-meets : (c : tie.Joined1) → c .if1 .m ≡ byteRead (c .before .before .args .m .now) (c .before .before .args .r) (c .before .before .args .k)
-unfolding byteRead
+meets : (c : tie.Joined1) → c .if1 .m ≡ readFrom (c .before .before .args .m .now) (c .before .before .args .r) (c .before .before .args .k)
+unfolding readFrom
 meets c = ⊎-elim
     (λ w. w .7 ∙ w .4 .ensures ∙ rw (w .2 .ensures .0, eq-eqb _ _ (w .0 .taken)))
     (λ w. w .1 ∙ rw (ne-eqb _ _ (w .0 .left)))

@@ -1,16 +1,16 @@
 -- `registers::write_byte` meets its contract: bytes 0 to 2 go into the latch, byte 3 stores it. Assumes nothing.
 use borrow.Author.Needs.{needs}
 use borrow.Author.Tests.{eq-eqb, ne-eqb}
-use Rattle.registers.specs.Registers.{byteWritten}
+use Rattle.registers.specs.Registers.{writtenTo}
 use Rattle.registers.proofs.write_byte.Statement.{statement}
 use Rattle.registers.proofs.write_byte.Tie as tie
 
 returns : tie.Need-returns
-unfolding byteWritten
+unfolding writtenTo
 returns c = rw (c .before .with-byte .ensures, ne-eqb _ _ (c .if1 .taken))
 
 returns-2 : tie.Need-returns-2
-unfolding byteWritten
+unfolding writtenTo
 returns-2 c =
     let d = c .before .before .before .before in
     rw (c .before .before .store .ensures, d .decode .ensures .0, d .before .before .before .with-byte .ensures, eq-eqb _ _ (d .before .before .if1 .left))
