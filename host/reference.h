@@ -23,15 +23,15 @@
 
 /* ---- limits ------------------------------------------------------------- */
 
-#define RECORD_WORDS  663u
-#define VOICES        32u
-#define VOICE_WORDS   20u
-#define OUTPUT_VALUES 12u
-#define BANK_WORDS    2097152u
-#define MOST_MEMORY_WORDS  8388608u
-#define ADDRESS_LIMIT 63u
-#define POT_LIMIT     1023u
-#define NO_INTERRUPT  128u
+#define RECORD_WORDS      663u
+#define VOICES            32u
+#define VOICE_WORDS       20u
+#define OUTPUT_VALUES     12u
+#define BANK_WORDS        2097152u
+#define MOST_MEMORY_WORDS 8388608u
+#define ADDRESS_LIMIT     63u
+#define POT_LIMIT         1023u
+#define NO_INTERRUPT      128u
 
 /* ---- the record: words of a voice, counted from the voice's first word -- */
 
@@ -69,7 +69,7 @@
 #define WORD_SLOW        648u
 #define WORD_WRITE_LATCH 649u
 #define WORD_READ_LATCH  650u
-#define WORD_SUMS     651u /* 0L, 0R, 1L, 1R .. 5L, 5R */
+#define WORD_SUMS        651u /* 0L, 0R, 1L, 1R .. 5L, 5R */
 
 /* ---- bits of CR ---------------------------------------------------------- */
 
