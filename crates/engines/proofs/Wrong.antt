@@ -1,22 +1,28 @@
--- The promises leave no choice, and so no room for a wrong engine. In order: two outcomes that a promise allows are equal; two engines
--- that keep the promises agree; four wrong engines, each of which breaks a promise in the frames of one note. Assumes nothing.
+-- The promises can be kept; and they leave no choice, and so no room for a wrong engine. In order: the engine of the definitions keeps
+-- them; two outcomes that a promise allows are equal; two engines that keep the promises agree; a frame of one note can be lent; four
+-- wrong engines, each of which breaks a promise in the frames of that note. Assumes nothing.
 use mathlib.Core.Path.{_≡_, refl, sym, ap, _∙_}
-use mathlib.Core.Bool.{true, false, false≢true}
-use mathlib.Core.List.{List, [], _∷_}
+use mathlib.Core.Bool.{false≢true}
+use mathlib.Core.List.{List}
 use Prim.Native.Nat.{ℕ}
+use lib.Dec.{lit<}
 use lib.IntN.{ℤ, pos, natAbs}
 use lib.ListN.{getD, replicate}
 use native.Mathlib.Omega.{arith}
 use Rattle.answer.specs.Answer.{isDone}
-use Rattle.answer.specs.declared.Answer.the-variants.{Done}
 use Rattle.machine.specs.Words.{ACCUM, voiceWord}
+use Rattle.machine.proofs.Valid.{is-valid}
 use Rattle.frame.specs.Frame.{frameRecord, frameOutput}
-use Rattle.calls.specs.Calls.{Frame, answerTo, after, outputFrom}
-use Rattle.calls.specs.Asks.{Performs}
-use Rattle.engines.specs.Engines.{Outcome, Engine, Meets, Keeps, RefusesAll, PutsOutZeros, NeverChanges, Repeats}
+use Rattle.frame.proofs.Answered.{done-frame}
+use Rattle.calls.specs.Calls.{answerTo, after, outputFrom}
+use Rattle.engines.specs.Engines.{U16, I32, Lent, Outcome, Engine, Meets, Keeps, defined, RefusesAll, PutsOutZeros, NeverChanges, Repeats}
 use Rattle.engines.proofs.Heard.{one, memory, silence, framed, one-done, one-heard, one-stepped, two-heard}
+use Rattle.engines.proofs.Lent.{all-joined, all-copies, valid-words, lent-again}
 use Rattle.calls.specs.declared.Ask.{Ask}
 use Rattle.calls.specs.declared.Ask.the-variants as Ask
+
+pub keeps-defined : Keeps defined
+keeps-defined m memory out ask l = record { answers = refl; gives = refl; leaves = refl; sounds = refl }
 
 pub one-outcome : {m memory : List ℕ} {out : List ℤ} {ask : Ask} (o p : Outcome) → Meets m memory out ask o → Meets m memory out ask p → o ≡ p
 one-outcome o p h k =
@@ -26,10 +32,20 @@ one-outcome o p h k =
     let s : o .sound ≡ p .sound = h .sounds ∙ sym (k .sounds) in
     rw (a, b, l, s)
 
-pub one-engine : (e f : Engine) → Keeps e → Keeps f → (m memory : List ℕ) (out : List ℤ) (ask : Ask) → e m memory out ask ≡ f m memory out ask
-one-engine e f h k m memory out ask = one-outcome (e m memory out ask) (f m memory out ask) (h m memory out ask) (k m memory out ask)
+pub one-engine : (e f : Engine) → Keeps e → Keeps f
+    → (m memory : List ℕ) (out : List ℤ) (ask : Ask) → Lent m memory out ask → e m memory out ask ≡ f m memory out ask
+one-engine e f h k m memory out ask l = one-outcome (e m memory out ask) (f m memory out ask) (h m memory out ask l) (k m memory out ask l)
 
 -- ---- wrong engines
+
+pub one-lent : Lent one memory silence Ask.Frame
+one-lent = record {
+  words = valid-words one (is-valid one (done-frame one memory silence one-done .0));
+  samples = all-joined U16 (replicate 8 32767) (replicate 4 32768)
+      (all-copies U16 8 32767 (lit< tt)) (all-copies U16 4 32768 (lit< tt));
+  values = all-copies I32 12 (pos 0) (record { bits = lit< tt });
+  asked = tt;
+}
 
 -- the first value heard, without its sign
 leftmost : List ℤ → ℕ
@@ -38,30 +54,30 @@ leftmost l = natAbs (getD l 0 (pos 0))
 module _ (e : Engine) (keeps : Keeps e) where
   pub not-refuses-all : RefusesAll e → ⊥
   unfolding answerTo
-  not-refuses-all h = false≢true (sym (h one memory silence Ask.Frame) ∙ ap isDone (keeps one memory silence Ask.Frame .answers ∙ one-done))
+  not-refuses-all h = false≢true (sym (h one memory silence Ask.Frame one-lent) ∙ ap isDone (keeps one memory silence Ask.Frame one-lent .answers ∙ one-done))
 
   pub not-zeros : PutsOutZeros e → ⊥
   unfolding answerTo outputFrom leftmost
   not-zeros h =
-      let k = keeps one memory silence Ask.Frame in
-      let z = h one memory silence (ap isDone (k .answers ∙ one-done)) in
+      let k = keeps one memory silence Ask.Frame one-lent in
+      let z = h one memory silence one-lent (ap isDone (k .answers ∙ one-done)) in
       let p : _≡_ {A = ℕ} 523248 0 = ap leftmost (sym one-heard ∙ sym (k .sounds) ∙ z) in
       omega arith
 
   pub not-frozen : NeverChanges e → ⊥
   unfolding after framed
   not-frozen h =
-      let p = sym (keeps one memory silence Ask.Frame .leaves) ∙ h one memory silence Ask.Frame in
+      let p = sym (keeps one memory silence Ask.Frame one-lent .leaves) ∙ h one memory silence Ask.Frame one-lent in
       let q : _≡_ {A = ℕ} 2049 10240 = sym one-stepped ∙ ap (λ m. getD m (voiceWord 0 ACCUM) 0) p in
       omega arith
 
   pub not-repeats : Repeats e → ⊥
   unfolding outputFrom after leftmost
   not-repeats h =
-      let k = keeps one memory silence Ask.Frame in
-      let l = keeps (e one memory silence Ask.Frame .later) memory (e one memory silence Ask.Frame .sound) Ask.Frame in
-      let s : e (e one memory silence Ask.Frame .later) memory (e one memory silence Ask.Frame .sound) Ask.Frame .sound
-      ≡ frameOutput (frameRecord one memory silence) memory (frameOutput one memory silence)
-      = l .sounds ∙ (λ i. frameOutput (k .leaves i) memory (k .sounds i)) in
-      let p : _≡_ {A = ℕ} 515056 523248 = ap leftmost (sym two-heard ∙ sym s ∙ h one memory silence ∙ k .sounds ∙ one-heard) in
+      let o = e one memory silence Ask.Frame in
+      let k = keeps one memory silence Ask.Frame one-lent in
+      let l = keeps (o .later) memory (o .sound) Ask.Frame (lent-again o k one-lent Ask.Frame tt) in
+      let s : e (o .later) memory (o .sound) Ask.Frame .sound ≡ frameOutput (frameRecord one memory silence) memory (frameOutput one memory silence) =
+      l .sounds ∙ (λ i. frameOutput (k .leaves i) memory (k .sounds i)) in
+      let p : _≡_ {A = ℕ} 515056 523248 = ap leftmost (sym two-heard ∙ sym s ∙ h one memory silence one-lent ∙ k .sounds ∙ one-heard) in
       omega arith

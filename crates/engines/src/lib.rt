@@ -1,1 +1,1 @@
-// What an engine is, and that no wrong one keeps the promises: definitions and theorems alone.
+// What an engine is, that the promises can be kept, and that no wrong engine keeps them: definitions and theorems alone.
