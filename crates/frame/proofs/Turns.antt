@@ -11,7 +11,7 @@ use native.Mathlib.Nat.{mod-eq-of-lt}
 use native.Mathlib.Omega.{arith}
 use borrow.Author.Tests.{eqb-true, eqb-false, ltb-true, ltb-false, ne-eqb}
 use lib.Bits.{bitAnd, and-mask}
-use lib.Dec.{eqb, ltb, lit<}
+use lib.Dec.{eqb, ltb, lit<, lit≤}
 use lib.IntN.{ℤ}
 use lib.ListN.{length, getD, set, take, drop, replicate, length-drop, length-append, length-map, getD-replicate, List·getD-append}
 use lib.Seq.{getD-take, getD-drop, getD-append-add, getD-set-same, getD-set-other, length-take-le, ext-getD}
@@ -20,7 +20,7 @@ use Rattle.numbers.proofs.Tests.{either, cases}
 use Rattle.control.specs.Control.{flagOf, channelOf, IRQ}
 use Rattle.channel.specs.Channel.{mixed, putOut}
 use Rattle.channel.proofs.Laws.{mixed-is}
-use Rattle.machine.specs.Words.{PAGE, IRQV, ACTV, SLOW, SUMS, bitsOf, sharedBits, cut, RECORD_WORDS}
+use Rattle.machine.specs.Words.{PAGE, IRQV, SLOW, SUMS, bitsOf, sharedBits, cut, RECORD_WORDS}
 use Rattle.machine.specs.Voices.{voiceAt, putVoice}
 use Rattle.machine.proofs.Parts.{voice-set-shared, voice-same, put-length, put-same, put-other, put-out}
 use Rattle.machine.proofs.Valid.{Sound, sound-set, sound-put, sound-voice}
@@ -153,10 +153,10 @@ module _ (memory : List ℕ) (v : ℕ) (m : List ℕ) (s : Sound m) (h : v < 32)
   unfolding put wordsAfter
   put-sound = sound-put v (wordsAfter memory (getD m SLOW 0) (voiceAt m v)) s h long (turn-cut memory (getD m SLOW 0) (voiceAt m v) (λ j k. sound-voice m s v j h k))
 
-  -- the words between the vector and the sums stay
-  pub turn-word : (i : ℕ) → IRQV < i → i < SUMS → getD (turnAt memory v m) i 0 ≡ getD m i 0
+  -- the words between the voices and the sums stay, but for the vector
+  pub turn-word : (i : ℕ) → PAGE ≤ i → i < SUMS → i ≢ IRQV → getD (turnAt memory v m) i 0 ≡ getD m i 0
   unfolding turnAt put wordsAfter
-  turn-word i k l = signalled-word _ v _ i (λ e. omega arith) ∙ added-word _ _ _ _ i l ∙ put-word i (omega arith)
+  turn-word i k l d = signalled-word _ v _ i d ∙ added-word _ _ _ _ i l ∙ put-word i k
 
   pub turn-sum : (i : ℕ) → i < 12 → getD (turnAt memory v m) (SUMS + i) 0 ≡ (getD m (SUMS + i) 0 + share memory (getD m SLOW 0) (voiceAt m v) i) % 8388608
   unfolding turnAt put wordsAfter share
@@ -183,7 +183,7 @@ pub turns-slow : (memory : List ℕ) (n : ℕ) {m : List ℕ} → Sound m → n 
 unfolding turns
 turns-slow memory zero s h = refl
 turns-slow memory (suc n) {m} s h =
-    turn-word memory n (turns memory n m) (sound-turns memory n s (omega arith)) h SLOW (lit< tt) (lit< tt) ∙ turns-slow memory n s (omega arith)
+    turn-word memory n (turns memory n m) (sound-turns memory n s (omega arith)) h SLOW (lit≤ tt) (lit< tt) (λ e. omega arith) ∙ turns-slow memory n s (omega arith)
 
 -- ---- the closing
 
@@ -217,9 +217,9 @@ module _ (m : List ℕ) (s : Sound m) where
       voice-set-shared (silenced m) v SLOW next silenced-length h (omega arith)
       ∙ voice-same (silenced m) m v v (omega (arith, silenced-length)) (omega (arith, s .size)) (λ j k. silenced-word (20 * v + j) (omega arith))
 
-  pub closed-active : getD (closed m) ACTV 0 ≡ getD m ACTV 0
+  pub closed-word : (i : ℕ) → i < SUMS → i ≢ SLOW → getD (closed m) i 0 ≡ getD m i 0
   unfolding closed next
-  closed-active = getD-set-other (silenced m) SLOW ACTV next 0 (λ e. omega arith) ∙ silenced-word ACTV (omega arith)
+  closed-word i h d = getD-set-other (silenced m) SLOW i next 0 d ∙ silenced-word i h
 
   pub closed-slow : getD (closed m) SLOW 0 ≡ (getD m SLOW 0 + 1) % 8
   unfolding closed next

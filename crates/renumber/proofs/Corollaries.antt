@@ -16,7 +16,6 @@ use lib.ListN.{length, getD, set, replicate}
 use lib.Seq.{getD-set-same, getD-set-other}
 use borrow.Author.Tests.{eq-eqb, ne-eqb, lt-ltb, le-ltb}
 use Rattle.numbers.proofs.Tests.{cases}
-use Rattle.answer.specs.declared.Answer.the-variants.{Done}
 use Rattle.machine.specs.Words.{START, O4N1, PAGE, WRITE_LATCH, ACTV, voiceWord, sharedBits, bitsOf, cut, valid}
 use Rattle.machine.proofs.Valid.{Sound, sound}
 use Rattle.sample.specs.Sample.{MOST_MEMORY_WORDS}
@@ -28,13 +27,14 @@ use Rattle.renumber.specs.Demand.{Renumbering, Match, Put, ofVoice, Phas
 use Rattle.renumber.specs.Demand.{Log, End, Then, Trace, stop, go-on, SameWrites, Alike}
 use Rattle.renumber.specs.Score.{pageFor, registerFor, writes, allWrites, Step, callsOf, putOn, stepOn, Fits, AllFit, Playable}
 use Rattle.renumber.proofs.Same.{same-equal}
-use Rattle.renumber.proofs.Stretch.{between, last-written, page-named}
+use Rattle.renumber.proofs.Stretch.{In, stretch, between, last-written, page-named}
 use Rattle.renumber.proofs.Frame.{frame-sound}
-use Rattle.renumber.proofs.Theorem.{inaudible}
+use Rattle.renumber.proofs.Theorem.{over-frame, inaudible}
 
 -- ---- parts put together
 
-pub one-after-other : {m : List ℕ} {φ : Phase} {t u : List Call} {ps qs : List Put} → Between m φ t ps → Between (run m t) idle u qs → Between m φ (t ++ u) (ps ++ qs)
+pub one-after-other : {m : List ℕ} {φ χ ψ : Phase} {t u : List Call} {ps qs : List Put} → Between m φ t ps χ → Between (run m t) χ u qs ψ
+    → Between m φ (t ++ u) (ps ++ qs) ψ
 unfolding run
 one-after-other nothing e = e
 one-after-other (reading a d) e = reading a (one-after-other d e)
@@ -44,6 +44,18 @@ one-after-other (paging k b hk hb d) e = paging k b hk hb (one-after-other d e)
 one-after-other (first r v j b hr hv hj hb n d) e = first r v j b hr hv hj hb n (one-after-other d e)
 one-after-other (next b hk hb d) e = next b hk hb (one-after-other d e)
 one-after-other (last b hb d) e = last b hb (one-after-other d e)
+
+-- calls, then a frame that is lent what it asks for, then a trace on the machine that it leaves: together they are a trace
+pub one-frame-more : {m : List ℕ} {φ ψ : Phase} {t u : List Call} {ps : List Put} {l : Log} (memory : List ℕ) (out : List ℤ) → length memory ≤ MOST_MEMORY_WORDS → length out ≡ 12
+    → Sound m → In m φ → Between m φ t ps ψ
+    → (Sound (after (run m t) (Frame memory out)) → In (after (run m t) (Frame memory out)) ψ → Trace (after (run m t) (Frame memory out)) ψ u l)
+    → Trace m φ (t ++ Frame memory out ∷ u) (Then ps memory l)
+unfolding answerTo
+one-frame-more {m} {ψ = ψ} {t = t} memory out h k s i d f =
+    let r = stretch s i d in
+    let s₁ = r .moved .sound in
+    let a = not-refused-frame (run m t) memory out s₁ h k in
+    go-on memory out d a (f (frame-sound (run m t) memory out a s₁) (over-frame ψ memory out a s₁ (r .phase)))
 
 -- ---- the calls of a write
 
@@ -110,7 +122,7 @@ page-after {m} b s h =
     rw (last-written 15 b PAGE s (lit< tt) (page-named (getD m PAGE 0)))
     (getD-set-other (set m PAGE z) WRITE_LATCH PAGE 0 0 (λ e. omega arith) ∙ getD-set-same m PAGE z 0 (omega (arith, s .size)) ∙ and-mask x 7 ∙ omega arith)
 
-pub one-write : {m : List ℕ} (p : Put) → Sound m → Fits p → Between m idle (writes p) (p ∷ [])
+pub one-write : {m : List ℕ} (p : Put) → Sound m → Fits p → Between m idle (writes p) (p ∷ []) idle
 unfolding writes
 one-write {m} p s f =
     let v = p .voice in
@@ -122,14 +134,14 @@ one-write {m} p s f =
     let e : registerOf (getD (after m (Write (4 * 15 + 3) (pageFor v j))) PAGE 0) (registerFor j) ≡ Word (voiceWord v j) = rw (page-after (pageFor v j) s (omega arith)) (named v j hv hj) in
     let q : _≡_ {A = Put} (record { voice = v; word = j; number = 256 * (256 * (256 * byteOf 0 x + byteOf 1 x) + byteOf 2 x) + byteOf 3 x }) p =
     λ i. record { voice = v; word = j; number = four-bytes x (f .number) i } in
-    subst (λ (y : Put). Between m idle (writes p) (y ∷ [])) q
+    subst (λ (y : Put). Between m idle (writes p) (y ∷ []) idle) q
     (paging 3 (pageFor v j) (lit< tt) (omega arith)
     (first (registerFor j) v j (byteOf 0 x) (register-lt j hj) hv hj (byte-lt 0 x) e
     (next {k = 1} (byteOf 1 x) (lit< tt) (byte-lt 1 x)
     (next {k = 2} (byteOf 2 x) (lit< tt) (byte-lt 2 x)
     (last (byteOf 3 x) (byte-lt 3 x) nothing)))))
 
-all-writes : {m : List ℕ} (ps : List Put) → Sound m → AllFit ps → Between m idle (allWrites ps) ps
+all-writes : {m : List ℕ} (ps : List Put) → Sound m → AllFit ps → Between m idle (allWrites ps) ps idle
 unfolding allWrites
 all-writes [] s f = nothing
 all-writes (p ∷ ps) s f = let d = one-write p s (f .0) in one-after-other d (all-writes ps (between s d .sound) (f .1))
@@ -140,18 +152,10 @@ unfoldable pub logOf : List Step → Log
 logOf [] = End []
 logOf (f ∷ fs) = Then (f .puts) (f .memory) (logOf fs)
 
-pub frame-done : {m : List ℕ} (memory : List ℕ) (out : List ℤ) → Sound m → length memory ≤ MOST_MEMORY_WORDS → length out ≡ 12 → answerTo m (Frame memory out) ≡ Done
-unfolding answerTo
-frame-done {m} memory out s h k = not-refused-frame m memory out s h k
-
-pub score-trace : {m : List ℕ} (fs : List Step) → Sound m → Playable fs → Trace m (callsOf fs) (logOf fs)
+pub score-trace : {m : List ℕ} (fs : List Step) → Sound m → Playable fs → Trace m idle (callsOf fs) (logOf fs)
 unfolding callsOf logOf
 score-trace [] s h = stop nothing
-score-trace {m} (f ∷ fs) s h =
-    let d = all-writes (f .puts) s (h .0) in
-    let s₁ = between s d .sound in
-    let a = frame-done (f .memory) (replicate 12 (pos 0)) s₁ (h .1) refl in
-    go-on (f .memory) (replicate 12 (pos 0)) d a (score-trace fs (frame-sound (run m (allWrites (f .puts))) (f .memory) (replicate 12 (pos 0)) a s₁) (h .2))
+score-trace (f ∷ fs) s h = one-frame-more (f .memory) (replicate 12 (pos 0)) (h .1) refl s tt (all-writes (f .puts) s (h .0)) (λ s₁ _. score-trace fs s₁ (h .2))
 
 -- ---- scores that are alike
 

@@ -1,5 +1,5 @@
 -- The theorem's hypotheses can be met, by machines and traces that differ wherever they may: two machines that were reset, one with a note in
--- voice 3 and one with it in voice 5, and two hosts that write its volume.
+-- voice 3 and one with it in voice 5, and two hosts that write its volume, one of them with a frame between the bytes.
 -- In order: the machines; voices 3 and 5 exchanged; the machines match; two traces; the theorem at them. Assumes nothing.
 use mathlib.Core.Path.{_≡_, refl, sym, ap, _∙_}
 use mathlib.Core.Logic.{_≢_}
@@ -20,16 +20,16 @@ use Rattle.machine.specs.Voices.{voiceAt, putVoice}
 use Rattle.machine.specs.Reset.{resetWord, wordsFrom, fresh}
 use Rattle.machine.proofs.Parts.{voice-same, voice-set-shared, put-length, put-same, put-other, put-out}
 use Rattle.machine.proofs.Fresh.{fresh-length, fresh-at}
-use Rattle.machine.proofs.Valid.{sound}
+use Rattle.machine.proofs.Valid.{Sound, sound}
 use Rattle.registers.specs.Registers.{registerOf, lowPage}
 use Rattle.calls.specs.Calls.{Call, Write, Read, SetPot, Frame, run, outputs}
-use Rattle.renumber.specs.Demand.{Renumbering, SameVoice, Match, Put, ofVoice, idle, Between, nothing, reading, potting, refused, paging, first, next, last}
-use Rattle.renumber.specs.Demand.{End, Then, Trace, stop, go-on, SameWrites}
+use Rattle.renumber.specs.Demand.{Renumbering, SameVoice, Match, Put, ofVoice, idle, begun, Between, nothing, reading, potting, refused, paging, first, next, last}
+use Rattle.renumber.specs.Demand.{Log, End, Then, Trace, stop, SameWrites}
 use Rattle.renumber.specs.Score.{writes, Fits}
 use Rattle.renumber.proofs.Same.{same-equal}
-use Rattle.renumber.proofs.Stretch.{between}
+use Rattle.renumber.proofs.Stretch.{In, stretch, between}
 use Rattle.renumber.proofs.Theorem.{inaudible}
-use Rattle.renumber.proofs.Corollaries.{one-after-other, one-write, frame-done}
+use Rattle.renumber.proofs.Corollaries.{one-after-other, one-write, one-frame-more}
 
 -- ---- the machines
 
@@ -161,14 +161,18 @@ volume v = record { voice = v; word = 2; number = 32768 }
 unfoldable pub stopped : Put
 stopped = record { voice = 0; word = 0; number = 3 }
 
--- On the one machine LVOL of voice 3 is written, on the page that is set, with a read of the vector between its bytes; then CR of voice 0.
-unfoldable pub before : List Call
-before = (Write 8 0 ∷ Read 56 ∷ Write 9 0 ∷ Write 10 128 ∷ Write 11 0 ∷ []) ++ writes stopped
+-- On the one machine LVOL of voice 3 is written, on the page that is set, with a read of the vector and a frame between its bytes; then CR
+-- of voice 0.
+unfoldable pub begin : List Call
+begin = Write 8 0 ∷ Read 56 ∷ []
 
--- On the other CR of voice 0 comes first; then a pot result, a byte of PAGE that is left at that, and a write that is refused; then LVOL of
--- voice 5.
-unfoldable pub before′ : List Call
-before′ = (writes stopped ++ SetPot 5 ∷ Write 60 1 ∷ Write 99 7 ∷ []) ++ writes (volume 5)
+unfoldable pub finish : List Call
+finish = (Write 9 0 ∷ Write 10 128 ∷ Write 11 0 ∷ []) ++ writes stopped
+
+-- On the other both writes stand whole after the frame. CR of voice 0 comes first; then a pot result, a byte of PAGE that is left at that,
+-- and a write that is refused; then LVOL of voice 5.
+unfoldable pub whole : List Call
+whole = (writes stopped ++ SetPot 5 ∷ Write 60 1 ∷ Write 99 7 ∷ []) ++ writes (volume 5)
 
 fits : (v : ℕ) → v < 32 → Fits (volume v)
 unfolding volume
@@ -178,18 +182,19 @@ fits-stopped : Fits stopped
 unfolding stopped
 fits-stopped = record { voice = lit< tt; word = lit< tt; number = lit< tt }
 
-allowed : Between one idle before (volume 3 ∷ stopped ∷ [])
-unfolding before volume one machine note putVoice fresh wordsFrom resetWord registerOf lowPage
-allowed =
-    let d =
-    first 2 3 2 0 (lit< tt) (lit< tt) (lit< tt) (lit< tt) refl
-    (reading 56 (next {k = 1} 0 (lit< tt) (lit< tt) (next {k = 2} 128 (lit< tt) (lit< tt) (last 0 (lit< tt) nothing)))) in
-    one-after-other d (one-write stopped (between (sound one one-valid) d .sound) fits-stopped)
+begins : Between one idle begin [] (begun 2 3 2 1 0)
+unfolding begin one machine note putVoice fresh wordsFrom resetWord registerOf lowPage
+begins = first 2 3 2 0 (lit< tt) (lit< tt) (lit< tt) (lit< tt) refl (reading 56 nothing)
 
-allowed′ : Between other idle before′ (stopped ∷ volume 5 ∷ [])
-unfolding before′
-allowed′ =
-    let s = sound other other-valid in
+finishes : {m : List ℕ} → Sound m → In m (begun 2 3 2 1 0) → Between m (begun 2 3 2 1 0) finish (volume 3 ∷ stopped ∷ []) idle
+unfolding finish volume
+finishes s i =
+    let d = next {k = 1} 0 (lit< tt) (lit< tt) (next {k = 2} 128 (lit< tt) (lit< tt) (last 0 (lit< tt) nothing)) in
+    one-after-other d (one-write stopped (stretch s i d .moved .sound) fits-stopped)
+
+both-whole : {m : List ℕ} → Sound m → Between m idle whole (stopped ∷ volume 5 ∷ []) idle
+unfolding whole
+both-whole s =
     let d = one-after-other (one-write stopped s fits-stopped) (potting 5 (paging 0 1 (lit< tt) (lit< tt) (refused 99 7 (lit< tt) nothing))) in
     one-after-other d (one-write (volume 5) (between s d .sound) (fits 5 (lit< tt)))
 
@@ -201,25 +206,32 @@ same-writes v h = exchanged-cases v (λ x y. ofVoice x (volume 3 ∷ stopped ∷
     at (yes d) e f = rw d refl
     at (no d) e f = rw (ne-eqb v 3 e, ne-eqb v 0 d, ne-eqb v 5 f)
 
+-- both writes count between the two frames, where their bytes 3 stand
+unfoldable pub log : List Put → Log
+log ps = Then [] memory (Then ps memory (End []))
+
 module _ (out out′ : List ℤ) (long : length out ≡ 12) (long′ : length out′ ≡ 12) where
   unfoldable pub calls : List Call
-  calls = before ++ Frame memory out ∷ Read 0 ∷ []
+  calls = begin ++ Frame memory out ∷ (finish ++ Frame memory out ∷ Read 0 ∷ [])
 
   unfoldable pub calls′ : List Call
-  calls′ = before′ ++ Frame memory out′ ∷ []
+  calls′ = Frame memory out′ ∷ (whole ++ Frame memory out′ ∷ [])
 
-  trace : Trace one calls (Then (volume 3 ∷ stopped ∷ []) memory (End []))
-  unfolding calls memory
-  trace = go-on memory out allowed (frame-done memory out (between (sound one one-valid) allowed .sound) (omega arith) long) (stop (reading 0 nothing))
+  trace : Trace one idle calls (log (volume 3 ∷ stopped ∷ []))
+  unfolding calls log memory
+  trace = one-frame-more memory out (omega arith) long (sound one one-valid) tt begins
+      (λ s i. one-frame-more memory out (omega arith) long s i (finishes s i) (λ _ _. stop (reading 0 nothing)))
 
-  trace′ : Trace other calls′ (Then (stopped ∷ volume 5 ∷ []) memory (End []))
-  unfolding calls′ memory
-  trace′ = go-on memory out′ allowed′ (frame-done memory out′ (between (sound other other-valid) allowed′ .sound) (omega arith) long′) (stop nothing)
+  trace′ : Trace other idle calls′ (log (stopped ∷ volume 5 ∷ []))
+  unfolding calls′ log memory
+  trace′ = one-frame-more memory out′ (omega arith) long′ (sound other other-valid) tt nothing
+      (λ s i. one-frame-more memory out′ (omega arith) long′ s i (both-whole s) (λ _ _. stop nothing))
 
   -- ---- the theorem at them
 
   pub sounds-the-same : (outputs one calls ≡ outputs other calls′) × Match exchanged (run one calls) (run other calls′)
+  unfolding log
   sounds-the-same =
-      let r = inaudible exchanged one other one-valid other-valid renumbers matches calls calls′ (Then (volume 3 ∷ stopped ∷ []) memory (End [])) (Then (stopped ∷ volume 5 ∷ []) memory (End [])) trace trace′
-      (same-writes, refl, λ v h. refl) in
+      let r = inaudible exchanged one other one-valid other-valid renumbers matches calls calls′ (log (volume 3 ∷ stopped ∷ [])) (log (stopped ∷ volume 5 ∷ [])) trace trace′
+      ((λ v h. refl), refl, (same-writes, refl, λ v h. refl)) in
       (r .1, r .2)

@@ -1,23 +1,25 @@
--- One frame: what it leaves of one machine, voice by voice and sum by sum; and that two machines that match give the same values in it and
--- match after it.
+-- One frame: what it leaves of one machine, of each voice, each sum and the words between; and that two machines that match give the same
+-- values in it and match after it.
 -- In order: the turns of one machine; a frame that is not refused; two machines. Assumes nothing.
 use mathlib.Core.Path.{_≡_, refl, sym, ap, _∙_}
 use mathlib.Core.List.{List}
+use mathlib.Core.Logic.{_≢_}
 use Prim.Native.Nat.{ℕ, zero, suc, _+_, _%_, _≤_, _<_}
 use native.Mathlib.Decide.{ℕ-discrete}
 use native.Mathlib.Nat.{not-suc-le-zero, mod-add-mod, add-assoc}
 use native.Mathlib.Numerals.{add-one}
 use native.Mathlib.Omega.{arith}
+use lib.Dec.{lit<, lit≤}
 use lib.IntN.{ℤ}
 use lib.ListN.{getD}
 use Rattle.numbers.proofs.Tests.{cases}
 use Rattle.answer.specs.declared.Answer.the-variants.{Done}
-use Rattle.machine.specs.Words.{ACTV, SLOW, SUMS}
+use Rattle.machine.specs.Words.{PAGE, IRQV, ACTV, SLOW, SUMS}
 use Rattle.machine.specs.Voices.{voiceAt}
 use Rattle.machine.proofs.Valid.{Sound}
 use Rattle.frame.specs.Frame.{turnAt, turns, played, heard, closed, frameRecord, frameOutput}
 use Rattle.frame.proofs.Keeps.{sound-turn, sum-small, active-le}
-use Rattle.frame.proofs.Turns.{wordsAfter, share, turn-word, turn-sum, turn-same, turn-other, closed-voice, closed-active, closed-slow, closed-sum, sound-closed, heard-length, heard-same}
+use Rattle.frame.proofs.Turns.{wordsAfter, share, turn-word, turn-sum, turn-same, turn-other, closed-voice, closed-word, closed-slow, closed-sum, sound-closed, heard-length, heard-same}
 use Rattle.calls.specs.Calls.{Frame, answerTo, after, outputFrom}
 use Rattle.renumber.specs.Demand.{Into, Renumbering, SameVoice, Match, SameFrame}
 use Rattle.renumber.proofs.Sum.{sum, sum-ext, sum-renumbered, one-to-one-below, stays-out}
@@ -34,9 +36,15 @@ pub record Turned (memory : List ℕ) (k : ℕ) (m m′ : List ℕ) : Type 0 whe
   pub sound : Sound m′
   pub past : (v : ℕ) → v < 32 → v < k → voiceAt m′ v ≡ wordsAfter memory (getD m SLOW 0) (voiceAt m v)
   pub ahead : (v : ℕ) → v < 32 → k ≤ v → voiceAt m′ v ≡ voiceAt m v
-  pub active : getD m′ ACTV 0 ≡ getD m ACTV 0
-  pub slow : getD m′ SLOW 0 ≡ getD m SLOW 0
+  pub words : (i : ℕ) → PAGE ≤ i → i < SUMS → i ≢ IRQV → getD m′ i 0 ≡ getD m i 0
   pub sums : (i : ℕ) → i < 12 → getD m′ (SUMS + i) 0 ≡ (getD m (SUMS + i) 0 + shares memory m k i) % 8388608
+
+slow-stays : {memory m m′ : List ℕ} {k : ℕ} → Turned memory k m m′ → getD m′ SLOW 0 ≡ getD m SLOW 0
+slow-stays t = t .words SLOW (lit≤ tt) (lit< tt) (λ e. omega arith)
+
+-- a word that neither they nor the closing touch
+closed-stays : {memory m m′ : List ℕ} {k : ℕ} → Turned memory k m m′ → (i : ℕ) → PAGE ≤ i → i < SUMS → i ≢ IRQV → i ≢ SLOW → getD (closed m′) i 0 ≡ getD m i 0
+closed-stays {m′ = m′} t i h l d e = closed-word m′ (t .sound) i l e ∙ t .words i h l d
 
 module _ (memory : List ℕ) where
   no-turn : {m : List ℕ} → Sound m → Turned memory 0 m m
@@ -45,8 +53,7 @@ module _ (memory : List ℕ) where
     sound = s;
     past = λ v l k. absurd (not-suc-le-zero k);
     ahead = λ v l k. refl;
-    active = refl;
-    slow = refl;
+    words = λ i h l d. refl;
     sums = λ i h. omega (arith, sum-small m s i h);
   }
 
@@ -56,8 +63,7 @@ module _ (memory : List ℕ) where
     sound = sound-turn memory k (t .sound) h;
     past = λ v l j. past v l j (ℕ-discrete v k);
     ahead = λ v l j. turn-other memory k m′ (t .sound) h v l (λ e. omega arith) ∙ t .ahead v l (omega arith);
-    active = turn-word memory k m′ (t .sound) h ACTV (omega arith) (omega arith) ∙ t .active;
-    slow = turn-word memory k m′ (t .sound) h SLOW (omega arith) (omega arith) ∙ t .slow;
+    words = λ i l j d. turn-word memory k m′ (t .sound) h i l j d ∙ t .words i l j d;
     sums = λ i j.
         turn-sum memory k m′ (t .sound) h i j
         ∙ ap (λ (x : ℕ). (getD m′ (SUMS + i) 0 + x) % 8388608) (own-share i)
@@ -68,10 +74,10 @@ module _ (memory : List ℕ) where
     where
       -- voice k comes to its turn as it was
       own-share : (i : ℕ) → share memory (getD m′ SLOW 0) (voiceAt m′ k) i ≡ share memory (getD m SLOW 0) (voiceAt m k) i
-      own-share i = rw (t .slow, t .ahead k h (omega arith))
+      own-share i = rw (slow-stays t, t .ahead k h (omega arith))
 
       past : (v : ℕ) → v < 32 → v < suc k → Dec (v ≡ k) → voiceAt (turnAt memory k m′) v ≡ wordsAfter memory (getD m SLOW 0) (voiceAt m v)
-      past v l j (yes e) = rw e (turn-same memory k m′ (t .sound) h ∙ rw (t .slow, t .ahead k h (omega arith)))
+      past v l j (yes e) = rw e (turn-same memory k m′ (t .sound) h ∙ rw (slow-stays t, t .ahead k h (omega arith)))
       past v l j (no e) = turn-other memory k m′ (t .sound) h v l e ∙ t .past v l (omega arith)
 
   turned : {m : List ℕ} (k : ℕ) → k ≤ 32 → Sound m → Turned memory k m (turns memory k m)
@@ -99,8 +105,8 @@ module _ (m memory : List ℕ) (out : List ℤ) (done : answerTo m (Frame memory
     pub frame-sound : Sound (after m (Frame memory out))
     frame-sound = rw frame-leaves (sound-closed (played memory m) (all-turned memory s .sound))
 
-    pub frame-active : getD (after m (Frame memory out)) ACTV 0 ≡ getD m ACTV 0
-    frame-active = rw frame-leaves (closed-active (played memory m) (all-turned memory s .sound) ∙ all-turned memory s .active)
+    pub frame-word : (i : ℕ) → PAGE ≤ i → i < SUMS → i ≢ IRQV → i ≢ SLOW → getD (after m (Frame memory out)) i 0 ≡ getD m i 0
+    frame-word i h l d e = rw frame-leaves (closed-stays (all-turned memory s) i h l d e)
 
 -- ---- two machines that match
 
@@ -148,8 +154,10 @@ module _ (memory : List ℕ) (s : ℕ → ℕ) (m n : List ℕ) (sm : Sound m) (
   closed-match : Match s (closed (played memory m)) (closed (played memory n))
   closed-match = record {
     voices = λ v h. rw (closed-voice (played memory m) (tm .sound) v h, closed-voice (played memory n) (tn .sound) (s v) (R .into v h)) (same-voices v h);
-    active = closed-active (played memory m) (tm .sound) ∙ tm .active ∙ M .active ∙ sym (closed-active (played memory n) (tn .sound) ∙ tn .active);
-    slow = closed-slow (played memory m) (tm .sound) ∙ ap (λ (x : ℕ). (x + 1) % 8) (tm .slow ∙ M .slow ∙ sym (tn .slow)) ∙ sym (closed-slow (played memory n) (tn .sound));
+    active =
+        closed-stays tm ACTV (lit≤ tt) (lit< tt) (λ e. omega arith) (λ e. omega arith) ∙ M .active
+        ∙ sym (closed-stays tn ACTV (lit≤ tt) (lit< tt) (λ e. omega arith) (λ e. omega arith));
+    slow = closed-slow (played memory m) (tm .sound) ∙ ap (λ (x : ℕ). (x + 1) % 8) (slow-stays tm ∙ M .slow ∙ sym (slow-stays tn)) ∙ sym (closed-slow (played memory n) (tn .sound));
     sums = λ i h. closed-sum (played memory m) (tm .sound) i h ∙ sym (closed-sum (played memory n) (tn .sound) i h);
   }
 

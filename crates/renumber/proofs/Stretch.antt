@@ -1,5 +1,5 @@
 -- The calls between two frames, on one machine: each voice gets its own writes, in their order, and nothing else changes that a match speaks
--- of.
+-- of; and the latch has the bytes of a write that is begun.
 -- In order: a voice after its writes; `Moved`, a machine after some writes; a word that no match speaks of; a write of a voice; reads, pot
 -- results and refused writes; the write latch, byte by byte; the calls. Assumes nothing.
 use mathlib.Core.Path.{_≡_, refl, sym, ap, _∙_}
@@ -138,10 +138,14 @@ put-moved {m} v j x s hv hj =
 
 -- ---- reads, pot results and refused writes: they move nothing, and leave PAGE and the write latch
 
+-- what a begun write goes by is as it was
+pub record Kept (m m′ : List ℕ) : Type 0 where
+  pub page : getD m′ PAGE 0 ≡ getD m PAGE 0
+  pub latch : getD m′ WRITE_LATCH 0 ≡ getD m WRITE_LATCH 0
+
 record Quiet (m m′ : List ℕ) : Type 0 where
   moved : Moved m [] m′
-  page : getD m′ PAGE 0 ≡ getD m PAGE 0
-  latch : getD m′ WRITE_LATCH 0 ≡ getD m WRITE_LATCH 0
+  kept : Kept m m′
 
 -- the control register that the vector names is none of the shared words
 vector-below : {m : List ℕ} (i : ℕ) → Sound m → PAGE ≤ i → i < RECORD_WORDS → i ≢ voiceWord (getD m IRQV 0) CR
@@ -167,8 +171,10 @@ read-quiet {m} a s = record {
     slow = above SLOW (λ e. omega arith) (λ e. omega arith) (λ e. omega arith) (lit≤ tt) (lit< tt);
     sums = λ c h. above (SUMS + c) (λ e. omega arith) (λ e. omega arith) (λ e. omega arith) (omega arith) (omega arith);
   };
-  page = above PAGE (λ e. omega arith) (λ e. omega arith) (λ e. omega arith) (lit≤ tt) (lit< tt);
-  latch = above WRITE_LATCH (λ e. omega arith) (λ e. omega arith) (λ e. omega arith) (lit≤ tt) (lit< tt);
+  kept = record {
+    page = above PAGE (λ e. omega arith) (λ e. omega arith) (λ e. omega arith) (lit≤ tt) (lit< tt);
+    latch = above WRITE_LATCH (λ e. omega arith) (λ e. omega arith) (λ e. omega arith) (lit≤ tt) (lit< tt);
+  };
 }
   where
     above : (i : ℕ) → i ≢ READ_LATCH → i ≢ PAR → i ≢ IRQV → PAGE ≤ i → i < RECORD_WORDS → getD (readRecord m a) i 0 ≡ getD m i 0
@@ -184,8 +190,7 @@ pot-quiet {m} p s =
     let f = pot-keeps m p in
     record {
       moved = quiet PAR (lit≤ tt, lit< tt, λ e. omega arith, λ e. omega arith) s (sound (potRecord m p) (pot-valid m p (is-valid m s))) f;
-      page = f PAGE (λ e. omega arith);
-      latch = f WRITE_LATCH (λ e. omega arith);
+      kept = record { page = f PAGE (λ e. omega arith); latch = f WRITE_LATCH (λ e. omega arith) };
     }
 
 no-move : {m : List ℕ} → Sound m → Moved m [] m
@@ -196,7 +201,7 @@ refused-quiet : {m : List ℕ} (a b : ℕ) → Sound m → 63 < a → Quiet m (a
 unfolding after byteAnswer
 refused-quiet {m} a b s h =
     let e : writeRecord m a b ≡ m = write-refused m a b (rw (asked-far m 63 a Address s h)) in
-    rw e (record { moved = no-move s; page = refl; latch = refl })
+    rw e (record { moved = no-move s; kept = record { page = refl; latch = refl } })
 
 -- ---- the write latch
 
@@ -254,20 +259,20 @@ page-moved {m} k b s hk hb = cases k 3 (Moved m [] (after m (Write (4 * 15 + k) 
 -- ---- the calls
 
 -- what holds in the middle of a write: the register still names the word, and the latch's highest bytes are the number so far
-record Begun (m : List ℕ) (r v j k x : ℕ) : Type 0 where
+pub record Begun (m : List ℕ) (r v j k x : ℕ) : Type 0 where
   hr : r < 16
   hv : v < 32
   hj : j < 20
   named : registerOf (getD m PAGE 0) r ≡ Word (voiceWord v j)
   top : topOf k (getD m WRITE_LATCH 0) ≡ x
 
-abbrev In : List ℕ → Phase → Type 0
+abbrev pub In : List ℕ → Phase → Type 0
 In m idle = Unit {0}
 In m (begun r v j k x) = Begun m r v j k x
 
-in-quiet : {m m′ : List ℕ} (φ : Phase) → Quiet m m′ → In m φ → In m′ φ
-in-quiet idle q i = tt
-in-quiet (begun r v j k x) q i = record { hr = i .hr; hv = i .hv; hj = i .hj; named = rw (q .page) (i .named); top = rw (q .latch) (i .top) }
+pub in-kept : {m m′ : List ℕ} (φ : Phase) → Kept m m′ → In m φ → In m′ φ
+in-kept idle q i = tt
+in-kept (begun r v j k x) q i = record { hr = i .hr; hv = i .hv; hj = i .hj; named = rw (q .page) (i .named); top = rw (q .latch) (i .top) }
 
 one-byte-more : {m : List ℕ} (r v j k x b : ℕ) → Sound m → Begun m r v j k x → k < 3 → b < 256 → Begun (after m (Write (4 * r + k) b)) r v j (k + 1) (256 * x + b)
 one-byte-more {m} r v j k x b s i hk hb =
@@ -286,31 +291,39 @@ last-moved {m} r v j x b s i =
     let p = put-moved v j (256 * x + b) s (i .hv) (i .hj) in
     rw (last-written r b (voiceWord v j) s (i .hr) (i .named), top-last b (getD m WRITE_LATCH 0), i .top) (moved-then s p (latch-moved 0 (p .sound) (lit< tt)))
 
-stretch : {m : List ℕ} {φ : Phase} {t : List Call} {ps : List Put} → Sound m → In m φ → Between m φ t ps → Moved m ps (run m t)
+-- each voice has got its writes, and the writes have come as far as the phase says
+pub record Stretched (m : List ℕ) (ps : List Put) (m′ : List ℕ) (ψ : Phase) : Type 0 where
+  pub moved : Moved m ps m′
+  pub phase : In m′ ψ
+
+call-then : {m m₁ m₂ : List ℕ} {ps qs : List Put} {ψ : Phase} → Sound m → Moved m ps m₁ → Stretched m₁ qs m₂ ψ → Stretched m (ps ++ qs) m₂ ψ
+call-then s q r = record { moved = moved-then s q (r .moved); phase = r .phase }
+
+pub stretch : {m : List ℕ} {φ ψ : Phase} {t : List Call} {ps : List Put} → Sound m → In m φ → Between m φ t ps ψ → Stretched m ps (run m t) ψ
 unfolding run
-stretch s i nothing = no-move s
+stretch s i nothing = record { moved = no-move s; phase = i }
 stretch {φ = φ} s i (reading a d) =
     let q = read-quiet a s in
-    moved-then s (q .moved) (stretch (q .moved .sound) (in-quiet φ q i) d)
+    call-then s (q .moved) (stretch (q .moved .sound) (in-kept φ (q .kept) i) d)
 stretch {φ = φ} s i (potting p d) =
     let q = pot-quiet p s in
-    moved-then s (q .moved) (stretch (q .moved .sound) (in-quiet φ q i) d)
+    call-then s (q .moved) (stretch (q .moved .sound) (in-kept φ (q .kept) i) d)
 stretch {φ = φ} s i (refused a b l d) =
     let q = refused-quiet a b s l in
-    moved-then s (q .moved) (stretch (q .moved .sound) (in-quiet φ q i) d)
+    call-then s (q .moved) (stretch (q .moved .sound) (in-kept φ (q .kept) i) d)
 stretch s i (paging k b hk hb d) =
     let q = page-moved k b s hk hb in
-    moved-then s q (stretch (q .sound) tt d)
+    call-then s q (stretch (q .sound) tt d)
 stretch {m} s i (first r v j b hr hv hj hb e d) =
     let q = byte-moved r 0 b s hr (lit< tt) hb in
     let o = rw (zero-add b) at (one-byte-more r v j 0 0 b s (record { hr = hr; hv = hv; hj = hj; named = e; top = top-none (getD m WRITE_LATCH 0) (latch-lt s) }) (lit< tt) hb) in
-    moved-then s q (stretch (q .sound) o d)
+    call-then s q (stretch (q .sound) o d)
 stretch s i (next {r = r} {v = v} {j = j} {k = k} {x = x} b hk hb d) =
     let q = byte-moved r k b s (i .hr) hk hb in
-    moved-then s q (stretch (q .sound) (one-byte-more r v j k x b s i hk hb) d)
+    call-then s q (stretch (q .sound) (one-byte-more r v j k x b s i hk hb) d)
 stretch s i (last {r = r} {v = v} {j = j} {x = x} b hb d) =
     let q = last-moved r v j x b s i in
-    moved-then s q (stretch (q .sound) tt d)
+    call-then s q (stretch (q .sound) tt d)
 
-pub between : {m : List ℕ} {t : List Call} {ps : List Put} → Sound m → Between m idle t ps → Moved m ps (run m t)
-between s d = stretch s tt d
+pub between : {m : List ℕ} {ψ : Phase} {t : List Call} {ps : List Put} → Sound m → Between m idle t ps ψ → Moved m ps (run m t)
+between s d = stretch s tt d .moved

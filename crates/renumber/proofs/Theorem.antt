@@ -1,20 +1,23 @@
 -- Which voice plays a note is inaudible: the theorem, for every pair of traces that it speaks of.
--- In order: two machines after the calls between two frames; the output of a run; the traces, frame by frame; the theorem.
--- Assumes nothing.
+-- In order: two machines after the calls between two frames; the output of a run; a write over a frame; the traces, frame by frame; the
+-- theorem. Assumes nothing.
 use mathlib.Core.Path.{_≡_, refl, sym, ap, ap₂, _∙_}
 use mathlib.Core.List.{List, [], _∷_, _++_, append-nil}
 use Prim.Native.Nat.{ℕ}
+use native.Mathlib.Omega.{arith}
+use lib.Dec.{lit<, lit≤}
+use lib.IntN.{ℤ}
 use lib.ListN.{getD}
 use Rattle.answer.specs.declared.Answer.the-variants.{Done}
-use Rattle.machine.specs.Words.{ACTV}
+use Rattle.machine.specs.Words.{PAGE, ACTV, WRITE_LATCH}
 use Rattle.machine.specs.Voices.{voiceAt}
 use Rattle.machine.proofs.Valid.{Sound, sound}
 use Rattle.calls.specs.Calls.{Call, Frame, answerTo, after, outputFrom, run, outputs}
-use Rattle.renumber.specs.Demand.{Into, Renumbering, Match, Put, ofVoice, Phase, idle, Between, nothing, reading, potting, refused, paging, first, next, last}
+use Rattle.renumber.specs.Demand.{Into, Renumbering, Match, Put, ofVoice, Phase, Between, nothing, reading, potting, refused, paging, first, next, last}
 use Rattle.renumber.specs.Demand.{Log, Trace, stop, go-on, SameWrites, Alike, SameFrame, Along, Inaudible}
 use Rattle.renumber.proofs.Same.{same-equal, same-back, same-then}
-use Rattle.renumber.proofs.Frame.{frame-same, frame-match, frame-sound, frame-active}
-use Rattle.renumber.proofs.Stretch.{Moved, puts, puts-same, voice-size, between}
+use Rattle.renumber.proofs.Frame.{frame-same, frame-match, frame-sound, frame-word}
+use Rattle.renumber.proofs.Stretch.{Moved, puts, puts-same, voice-size, In, in-kept, stretch}
 
 -- ---- two machines after the calls between two frames
 
@@ -38,7 +41,7 @@ run-both m [] u = refl
 run-both m (c ∷ t) u = run-both (after m c) t u
 
 -- the calls between two frames put nothing out
-silent : {m : List ℕ} {φ : Phase} {t : List Call} {ps : List Put} (u : List Call) → Between m φ t ps → outputs m (t ++ u) ≡ outputs (run m t) u
+silent : {m : List ℕ} {φ ψ : Phase} {t : List Call} {ps : List Put} (u : List Call) → Between m φ t ps ψ → outputs m (t ++ u) ≡ outputs (run m t) u
 unfolding run outputs outputFrom
 silent u nothing = refl
 silent u (reading a d) = silent u d
@@ -49,28 +52,43 @@ silent u (first r v j b hr hv hj hb e d) = silent u d
 silent u (next b hk hb d) = silent u d
 silent u (last b hb d) = silent u d
 
-silent-end : {m : List ℕ} {t : List Call} {ps : List Put} → Between m idle t ps → outputs m t ≡ []
+silent-end : {m : List ℕ} {φ ψ : Phase} {t : List Call} {ps : List Put} → Between m φ t ps ψ → outputs m t ≡ []
 unfolding outputs
 silent-end {m} {t} d = ap (outputs m) (sym (append-nil t)) ∙ silent [] d
 
-then-frame : {m : List ℕ} {t : List Call} {ps : List Put} (c : Call) (u : List Call) → Between m idle t ps
+then-frame : {m : List ℕ} {φ ψ : Phase} {t : List Call} {ps : List Put} (c : Call) (u : List Call) → Between m φ t ps ψ
     → outputs m (t ++ c ∷ u) ≡ outputFrom (run m t) c ++ outputs (after (run m t) c) u
 unfolding outputs
 then-frame c u d = silent (c ∷ u) d
 
+-- ---- a write over a frame
+
+-- a frame leaves PAGE and the write latch, so a begun write goes on after it
+pub over-frame : {m : List ℕ} (φ : Phase) (memory : List ℕ) (out : List ℤ) → answerTo m (Frame memory out) ≡ Done → Sound m → In m φ → In (after m (Frame memory out)) φ
+over-frame {m} φ memory out done s i =
+    let keeps = frame-word m memory out done s in
+    in-kept φ
+    (record {
+      page = keeps PAGE (lit≤ tt) (lit< tt) (λ e. omega arith) (λ e. omega arith);
+      latch = keeps WRITE_LATCH (lit≤ tt) (lit< tt) (λ e. omega arith) (λ e. omega arith);
+    })
+    i
+
 -- ---- the traces, frame by frame
 
-along : (s : ℕ → ℕ) {m n : List ℕ} {t u : List Call} {l k : Log} → Sound m → Sound n → Renumbering (getD m ACTV 0) s → Match s m n
-    → (T : Trace m t l) (U : Trace n u k) → Alike s l k → Along s T U × (outputs m t ≡ outputs n u) × Match s (run m t) (run n u)
+along : (s : ℕ → ℕ) {m n : List ℕ} {φ ψ : Phase} {t u : List Call} {l k : Log} → Sound m → Sound n → In m φ → In n ψ → Renumbering (getD m ACTV 0) s → Match s m n
+    → (T : Trace m φ t l) (U : Trace n ψ u k) → Alike s l k → Along s T U × (outputs m t ≡ outputs n u) × Match s (run m t) (run n u)
 unfolding run
-along s sm sn R M (stop d) (stop e) w =
-    let q = moved-match (R .into) sm sn (between sm d) (between sn e) w M in
+along s sm sn pm pn R M (stop d) (stop e) w =
+    let q = moved-match (R .into) sm sn (stretch sm pm d .moved) (stretch sn pn e .moved) w M in
     (q, silent-end d ∙ sym (silent-end e), q)
-along s sm sn R M (stop d) (go-on memory out e a f) w = absurd w
-along s sm sn R M (go-on memory out d a f) (stop e) w = absurd w
-along s {m} {n} sm sn R M (go-on {t = t} {u = u} memory out d dm f) (go-on {t = t′} {u = u′} memory′ out′ e dn g) w =
-    let a = between sm d in
-    let b = between sn e in
+along s sm sn pm pn R M (stop d) (go-on memory out e a f) w = absurd w
+along s sm sn pm pn R M (go-on memory out d a f) (stop e) w = absurd w
+along s {m} {n} sm sn pm pn R M (go-on {ψ = φ₁} {t = t} {u = u} memory out d dm f) (go-on {ψ = ψ₁} {t = t′} {u = u′} memory′ out′ e dn g) w =
+    let p = stretch sm pm d in
+    let q = stretch sn pn e in
+    let a = p .moved in
+    let b = q .moved in
     let M₁ = moved-match (R .into) sm sn a b (w .0) M in
     let R₁ : Renumbering (getD (run m t) ACTV 0) s = rw (a .active) R in
     let dn₁ : answerTo (run n t′) (Frame memory out′) ≡ Done = rw (w .1) dn in
@@ -78,8 +96,10 @@ along s {m} {n} sm sn R M (go-on {t = t} {u = u} memory out d dm f) (go-on {t = 
     rw (← (w .1)) (frame-same memory s (run m t) (run n t′) (a .sound) (b .sound) R₁ M₁ out out′ dm dn₁) in
     let M₂ : Match s (after (run m t) (Frame memory out)) (after (run n t′) (Frame memory′ out′)) =
     rw (← (w .1)) (frame-match memory s (run m t) (run n t′) (a .sound) (b .sound) R₁ M₁ out out′ dm dn₁) in
-    let R₂ : Renumbering (getD (after (run m t) (Frame memory out)) ACTV 0) s = rw (frame-active (run m t) memory out dm (a .sound)) R₁ in
-    let r = along s (frame-sound (run m t) memory out dm (a .sound)) (frame-sound (run n t′) memory′ out′ dn (b .sound)) R₂ M₂ f g (w .2) in (
+    let R₂ : Renumbering (getD (after (run m t) (Frame memory out)) ACTV 0) s =
+    rw (frame-word (run m t) memory out dm (a .sound) ACTV (lit≤ tt) (lit< tt) (λ e. omega arith) (λ e. omega arith)) R₁ in
+    let r = along s (frame-sound (run m t) memory out dm (a .sound)) (frame-sound (run n t′) memory′ out′ dn (b .sound))
+    (over-frame φ₁ memory out dm (a .sound) (p .phase)) (over-frame ψ₁ memory′ out′ dn (b .sound) (q .phase)) R₂ M₂ f g (w .2) in (
       (F, M₂, r .0),
       then-frame (Frame memory out) u d ∙ ap₂ (λ x y. x ++ y) (F .values) (r .1) ∙ sym (then-frame (Frame memory′ out′) u′ e),
       rw (run-both m t (Frame memory out ∷ u), run-both n t′ (Frame memory′ out′ ∷ u′)) (r .2),
@@ -88,4 +108,4 @@ along s {m} {n} sm sn R M (go-on {t = t} {u = u} memory out d dm f) (go-on {t = 
 -- ---- the theorem
 
 pub inaudible : Inaudible
-inaudible s m n vm vn R M t u l k T U w = along s (sound m vm) (sound n vn) R M T U w
+inaudible s m n vm vn R M t u l k T U w = along s (sound m vm) (sound n vn) tt tt R M T U w

@@ -68,46 +68,49 @@ pub data Phase : Type 0 where
   idle : Phase
   begun : (r v j k x : ℕ) → Phase
 
--- `Between m φ t ps`: on the record m, from the phase φ on, the calls t are allowed, no frame is among them, no write is left unfinished,
--- and ps are the whole writes that they finish, in order. There is no reset among them, and no write but those named here.
-pub data Between : List ℕ → Phase → List Call → List Put → Type 0 where
-  nothing : {m : List ℕ} → Between m idle [] []
+-- `Between m φ t ps ψ`: on the record m, from the phase φ on, the calls t are allowed, no frame is among them, ps are the whole writes that
+-- they finish, in order, and ψ is how far the writes have come at the end. There is no reset among them, and no write but those named here.
+pub data Between : List ℕ → Phase → List Call → List Put → Phase → Type 0 where
+  nothing : {m : List ℕ} {φ : Phase} → Between m φ [] [] φ
   -- reads may stand anywhere, also between the bytes of a write; so may pot results, and writes that are refused
-  reading : {m : List ℕ} {φ : Phase} {t : List Call} {ps : List Put} (a : ℕ)
-      → Between (after m (Read a)) φ t ps → Between m φ (Read a ∷ t) ps
-  potting : {m : List ℕ} {φ : Phase} {t : List Call} {ps : List Put} (p : ℕ)
-      → Between (after m (SetPot p)) φ t ps → Between m φ (SetPot p ∷ t) ps
-  refused : {m : List ℕ} {φ : Phase} {t : List Call} {ps : List Put} (a b : ℕ) → 63 < a
-      → Between (after m (Write a b)) φ t ps → Between m φ (Write a b ∷ t) ps
+  reading : {m : List ℕ} {φ ψ : Phase} {t : List Call} {ps : List Put} (a : ℕ)
+      → Between (after m (Read a)) φ t ps ψ → Between m φ (Read a ∷ t) ps ψ
+  potting : {m : List ℕ} {φ ψ : Phase} {t : List Call} {ps : List Put} (p : ℕ)
+      → Between (after m (SetPot p)) φ t ps ψ → Between m φ (SetPot p ∷ t) ps ψ
+  refused : {m : List ℕ} {φ ψ : Phase} {t : List Call} {ps : List Put} (a b : ℕ) → 63 < a
+      → Between (after m (Write a b)) φ t ps ψ → Between m φ (Write a b ∷ t) ps ψ
   -- a byte of PAGE, register 15: single bytes will do, in any order
-  paging : {m : List ℕ} {t : List Call} {ps : List Put} (k b : ℕ) → k < 4 → b < 256
-      → Between (after m (Write (4 * 15 + k) b)) idle t ps → Between m idle (Write (4 * 15 + k) b ∷ t) ps
+  paging : {m : List ℕ} {ψ : Phase} {t : List Call} {ps : List Put} (k b : ℕ) → k < 4 → b < 256
+      → Between (after m (Write (4 * 15 + k) b)) idle t ps ψ → Between m idle (Write (4 * 15 + k) b ∷ t) ps ψ
   -- byte 0 of a register that, as PAGE stands now, names word j of voice v
-  first : {m : List ℕ} {t : List Call} {ps : List Put} (r v j b : ℕ) → r < 16 → v < VOICES → j < VOICE_WORDS → b < 256
+  first : {m : List ℕ} {ψ : Phase} {t : List Call} {ps : List Put} (r v j b : ℕ) → r < 16 → v < VOICES → j < VOICE_WORDS → b < 256
       → registerOf (getD m PAGE 0) r ≡ Word (voiceWord v j)
-      → Between (after m (Write (4 * r + 0) b)) (begun r v j 1 b) t ps → Between m idle (Write (4 * r + 0) b ∷ t) ps
+      → Between (after m (Write (4 * r + 0) b)) (begun r v j 1 b) t ps ψ → Between m idle (Write (4 * r + 0) b ∷ t) ps ψ
   -- byte 1 or 2 of it
-  next : {m : List ℕ} {r v j k x : ℕ} {t : List Call} {ps : List Put} (b : ℕ) → k < 3 → b < 256
-      → Between (after m (Write (4 * r + k) b)) (begun r v j (k + 1) (256 * x + b)) t ps
-      → Between m (begun r v j k x) (Write (4 * r + k) b ∷ t) ps
+  next : {m : List ℕ} {r v j k x : ℕ} {ψ : Phase} {t : List Call} {ps : List Put} (b : ℕ) → k < 3 → b < 256
+      → Between (after m (Write (4 * r + k) b)) (begun r v j (k + 1) (256 * x + b)) t ps ψ
+      → Between m (begun r v j k x) (Write (4 * r + k) b ∷ t) ps ψ
   -- byte 3, which finishes the write
-  last : {m : List ℕ} {r v j x : ℕ} {t : List Call} {ps : List Put} (b : ℕ) → b < 256
-      → Between (after m (Write (4 * r + 3) b)) idle t ps
-      → Between m (begun r v j 3 x) (Write (4 * r + 3) b ∷ t) (record { voice = v; word = j; number = 256 * x + b } ∷ ps)
+  last : {m : List ℕ} {r v j x : ℕ} {ψ : Phase} {t : List Call} {ps : List Put} (b : ℕ) → b < 256
+      → Between (after m (Write (4 * r + 3) b)) idle t ps ψ
+      → Between m (begun r v j 3 x) (Write (4 * r + 3) b ∷ t) (record { voice = v; word = j; number = 256 * x + b } ∷ ps) ψ
 
 -- ---- traces
 
--- what a trace did: the whole writes before each frame, the sample memory that the frame was lent, and the writes after the last one
+-- what a trace did: the whole writes finished before each frame, the sample memory that the frame was lent, and the writes finished after
+-- the last one
 pub data Log : Type 0 where
   End : List Put → Log
   Then : List Put → List ℕ → Log → Log
 
--- `Trace m t l`: on the record m the calls t are allowed; between them stand frames, none refused; and l is what they did
-pub data Trace : List ℕ → List Call → Log → Type 0 where
-  stop : {m : List ℕ} {t : List Call} {ps : List Put} → Between m idle t ps → Trace m t (End ps)
-  go-on : {m : List ℕ} {t u : List Call} {ps : List Put} {l : Log} (memory : List ℕ) (out : List ℤ)
-      → Between m idle t ps → answerTo (run m t) (Frame memory out) ≡ Done
-      → Trace (after (run m t) (Frame memory out)) u l → Trace m (t ++ Frame memory out ∷ u) (Then ps memory l)
+-- `Trace m φ t l`: on the record m, from the phase φ on, the calls t are allowed; between them stand frames, none refused; no write is left
+-- unfinished in the end; and l is what they did. A frame is no write, so it may stand between the bytes of a whole write: the calls after it
+-- go on with that write, which counts where its byte 3 stands.
+pub data Trace : List ℕ → Phase → List Call → Log → Type 0 where
+  stop : {m : List ℕ} {φ : Phase} {t : List Call} {ps : List Put} → Between m φ t ps idle → Trace m φ t (End ps)
+  go-on : {m : List ℕ} {φ ψ : Phase} {t u : List Call} {ps : List Put} {l : Log} (memory : List ℕ) (out : List ℤ)
+      → Between m φ t ps ψ → answerTo (run m t) (Frame memory out) ≡ Done
+      → Trace (after (run m t) (Frame memory out)) ψ u l → Trace m φ (t ++ Frame memory out ∷ u) (Then ps memory l)
 
 -- ---- two traces that are alike
 
@@ -130,7 +133,7 @@ pub record SameFrame (m n : List ℕ) (c d : Call) : Type 0 where
   pub twelve : length (outputFrom m c) ≡ OUTPUT_VALUES
 
 -- every frame does; after each, and after the calls that follow the last, the machines match
-abbrev pub Along : (s : ℕ → ℕ) {m n : List ℕ} {t u : List Call} {l k : Log} → Trace m t l → Trace n u k → Type 0
+abbrev pub Along : (s : ℕ → ℕ) {m n : List ℕ} {φ ψ : Phase} {t u : List Call} {l k : Log} → Trace m φ t l → Trace n ψ u k → Type 0
 Along s (stop {m = m} {t = t} b) (stop {m = n} {t = u} d) = Match s (run m t) (run n u)
 Along s (stop b) (go-on memory out d e f) = ⊥
 Along s (go-on memory out b e f) (stop d) = ⊥
@@ -147,5 +150,5 @@ Along s (go-on {m = m} {t = t} memory out b e f) (go-on {m = n} {t = u} memory�
 abbrev pub Inaudible : Type 0
 Inaudible =
     (s : ℕ → ℕ) (m n : List ℕ) → valid m ≡ true → valid n ≡ true → Renumbering (getD m ACTV 0) s → Match s m n
-    → (t u : List Call) (l k : Log) (T : Trace m t l) (U : Trace n u k) → Alike s l k
+    → (t u : List Call) (l k : Log) (T : Trace m idle t l) (U : Trace n idle u k) → Alike s l k
     → Along s T U × (outputs m t ≡ outputs n u) × Match s (run m t) (run n u)
