@@ -1,7 +1,7 @@
 -- The poles keep 18 bits: a low pass lies between its input and its last output, and a high pass is held. Then poles 3 and 4 by
 -- the bits that choose their kind, and that no other bit matters. Assumes nothing.
 use mathlib.Core.Path.{_≡_, refl, sym, ap, subst, _∙_}
-use Prim.Native.Nat.{ℕ, _+_, _-_, _*_, _/_, _<_, _≤_}
+use Prim.Native.Nat.{ℕ, _+_, _-_, _*_, _/_, _<_, _≤_, suc-le-suc}
 use native.Mathlib.Nat.{mul-le-mul-left, mul-le-mul-right, le-of-lt}
 use native.Mathlib.Omega.{arith}
 use mathlib.Core.Bool.{true, false}
@@ -42,7 +42,7 @@ low-bits k x y hk hx hy =
 
 pub high-bits : (k : ℕ) (x x′ y : ℤ) → Bits 18 (highPass k x x′ y)
 unfolding highPass
-high-bits k x x′ y = record { bits = omega (arith, held-mag 131071 (x -ℤ x′ +ℤ floorDiv (pos k *ℤ y) 4096)) }
+high-bits k x x′ y = record { bits = suc-le-suc (held-mag 131071 _) }
 
 -- ---- poles 3 and 4 by their bits
 

@@ -16,25 +16,37 @@ use Rattle.control.specs.Control.{flagOf, bankOf, CMPD}
 use Rattle.sample.specs.Sample.{firstAt, secondAt, sampleOf, fetched, interpolated}
 use Rattle.sample.specs.Lasts.{lastOf}
 
-pub between-bits : (f : ℕ) (x y : ℤ) → f < 512 → Bits 16 x → Bits 16 y → Bits 18 (interpolated f x y)
-unfolding interpolated
-between-bits f x y hf hx hy =
+-- the value between two samples that are moved up to be no numbers below zero
+module _ (f p q : ℕ) (hf : f < 512) (hp : p < 65536) (hq : q < 65536) where
+  abbrev part : ℕ
+  part = (f * q + (262144 * 128 - f * p)) / 128
+
+  below : f * p ≤ 262144 * 128
+  below = let m : f * p ≤ 512 * p = mul-le-mul-right p (le-of-lt hf) in omega arith
+
+  interpolated-⊖ : interpolated f (p ⊖ 32768) (q ⊖ 32768) ≡ (4 * p + part) ⊖ (4 * 32768 + 262144)
+  unfolding interpolated
+  interpolated-⊖ =
+      let d : (q ⊖ 32768) -ℤ (p ⊖ 32768) ≡ q ⊖ p = ⊖-sub q 32768 p 32768 ∙ ⊖-eq (q + 32768) (32768 + p) q p (omega arith) in
+      let g : floorDiv (pos f *ℤ ((q ⊖ 32768) -ℤ (p ⊖ 32768))) 128 ≡ part ⊖ 262144 =
+      ap (λ (z : ℤ). floorDiv (pos f *ℤ z) 128) d ∙ ap (λ (z : ℤ). floorDiv z 128) (⊖-mul f q p) ∙ floor-up (f * q) (f * p) 262144 128 (lit< tt) below in
+      (λ i. ⊖-mul 4 p 32768 i +ℤ g i) ∙ ⊖-add (4 * p) (4 * 32768) part 262144
+
+  interpolated-fits : Bits 18 ((4 * p + part) ⊖ (4 * 32768 + 262144))
+  interpolated-fits =
+      let e = 65535 - p in
+      let m₁ : f * p ≤ 512 * p = mul-le-mul-right p (le-of-lt hf) in
+      let m₂ : f * q ≤ f * 65535 = mul-le-mul-left f (omega arith) in
+      let m₃ : f * e ≤ 512 * e = mul-le-mul-right e (le-of-lt hf) in
+      let m₄ : f * (e + p) ≡ f * 65535 = ap (λ (x : ℕ). f * x) (omega arith) in
+      bits-⊖ 18 (4 * p + part) (4 * 32768 + 262144) (omega arith) (omega arith)
+
+pub interpolated-bits : (f : ℕ) (x y : ℤ) → f < 512 → Bits 16 x → Bits 16 y → Bits 18 (interpolated f x y)
+interpolated-bits f x y hf hx hy =
     let a = biased 32768 x (hx .bits) in
     let b = biased 32768 y (hy .bits) in
-    let p = a .0 in
-    let q = b .0 in
-    let hp : p < 65536 = a .1 in
-    let hq : q < 65536 = b .1 in
-    let e = 65535 - p in
-    let m₁ : f * p ≤ 512 * p = mul-le-mul-right p (le-of-lt hf) in
-    let m₂ : f * q ≤ f * 65535 = mul-le-mul-left f (omega arith) in
-    let m₃ : f * e ≤ 512 * e = mul-le-mul-right e (le-of-lt hf) in
-    let m₄ : f * (e + p) ≡ f * 65535 = ap (λ (x : ℕ). f * x) (omega arith) in
-    let t = (f * q + (262144 * 128 - f * p)) / 128 in
-    let d : (q ⊖ 32768) -ℤ (p ⊖ 32768) ≡ q ⊖ p = ⊖-sub q 32768 p 32768 ∙ ⊖-eq (q + 32768) (32768 + p) q p (omega arith) in
-    let g : floorDiv (pos f *ℤ ((q ⊖ 32768) -ℤ (p ⊖ 32768))) 128 ≡ t ⊖ 262144 = ap (λ (z : ℤ). floorDiv (pos f *ℤ z) 128) d ∙ ap (λ (z : ℤ). floorDiv z 128) (⊖-mul f q p) ∙ floor-up (f * q) (f * p) 262144 128 (lit< tt) (omega arith) in
-    subst (Bits 18) (sym ((λ i. interpolated f ((a .2) i) ((b .2) i)) ∙ (λ i. ⊖-mul 4 p 32768 i +ℤ g i) ∙ ⊖-add (4 * p) (4 * 32768) t 262144))
-    (bits-⊖ 18 (4 * p + t) (4 * 32768 + 262144) (omega arith) (omega arith))
+    subst (Bits 18) (sym ((λ i. interpolated f ((a .2) i) ((b .2) i)) ∙ interpolated-⊖ f (a .0) (b .0) hf (a .1) (b .1)))
+    (interpolated-fits f (a .0) (b .0) hf (a .1) (b .1))
 
 pub compressed-word : (CR w : ℕ) → flagOf CMPD CR ≡ true → sampleOf CR w ≡ valueOf (w / 256)
 unfolding sampleOf

@@ -11,7 +11,7 @@ use Rattle.numbers.specs.Numbers.{floorDiv, Bits}
 use Rattle.numbers.proofs.Words.{floor-shared}
 use Rattle.numbers.proofs.Local.{held, nat, lit, sub, mul, shr, add, share6}
 use Rattle.sample.specs.Sample.{interpolated}
-use Rattle.sample.proofs.Laws.{between-bits}
+use Rattle.sample.proofs.Laws.{interpolated-bits}
 use Rattle.sample.proofs.blend.Statement.{statement}
 use Rattle.sample.proofs.blend.Tie as tie
 
@@ -28,7 +28,7 @@ returns c =
     let p = mul (f .num) (sub (held w32 tt (c .pre .1 .1)) x tt .num) tt in
     let r = add (mul (lit (pos 4)) x tt .num) (shr 512 (p .num) tt .num) tt in
     let e = r .num .is ∙ ap (λ (z : ℤ). pos 4 *ℤ c .args .s1 +ℤ z) (four-less (c .args .f) (c .args .s2 -ℤ c .args .s1)) in
-    (e, subst (Bits 18) (sym e) (between-bits _ _ _ (c .pre .0) (c .pre .1 .0) (c .pre .1 .1)))
+    (e, subst (Bits 18) (sym e) (interpolated-bits _ _ _ (c .pre .0) (c .pre .1 .0) (c .pre .1 .1)))
 
 pub blend-spec : {M : Type 1} → statement M
 blend-spec = tie.close (share6 tie.spec (λ c.
