@@ -19,14 +19,6 @@ use Rattle.sample.specs.Sample.{MOST_MEMORY_WORDS}
 use Rattle.frame.specs.Frame.{played, closed, heard, frameAnswer, frameRecord, frameOutput, Frames}
 
 module _ (m memory : List ℕ) (out : List ℤ) where
-  -- the tests of the memory and the output, which come after those of the record
-  abbrev later : List (Bool × Answer)
-  later = (ltb MOST_MEMORY_WORDS (length memory), MemoryLength) ∷ (not (eqb (length out) OUTPUT_VALUES), OutputLength) ∷ []
-
-  pub refused-record : isDone (checked m) ≡ false → frameAnswer m memory out ≡ checked m
-  unfolding frameAnswer checked
-  refused-record h = refused-early ((wrongLength m, RecordLength) ∷ (notValid m, RecordInvalid) ∷ []) later h
-
   pub refused-memory : Sound m → MOST_MEMORY_WORDS < length memory → frameAnswer m memory out ≡ MemoryLength
   unfolding frameAnswer
   refused-memory s k = let t = sound-tests m s in rw (t .0, t .1, lt-ltb MOST_MEMORY_WORDS (length memory) k)
@@ -38,6 +30,14 @@ module _ (m memory : List ℕ) (out : List ℤ) where
   pub not-refused-frame : Sound m → length memory ≤ MOST_MEMORY_WORDS → length out ≡ OUTPUT_VALUES → frameAnswer m memory out ≡ Done
   unfolding frameAnswer
   not-refused-frame s k l = let t = sound-tests m s in rw (t .0, t .1, le-ltb MOST_MEMORY_WORDS (length memory) k, eq-eqb (length out) OUTPUT_VALUES l)
+
+  -- the tests of the memory and the output, which come after those of the record
+  abbrev later : List (Bool × Answer)
+  later = (ltb MOST_MEMORY_WORDS (length memory), MemoryLength) ∷ (not (eqb (length out) OUTPUT_VALUES), OutputLength) ∷ []
+
+  pub refused-record : isDone (checked m) ≡ false → frameAnswer m memory out ≡ checked m
+  unfolding frameAnswer checked
+  refused-record h = refused-early ((wrongLength m, RecordLength) ∷ (notValid m, RecordInvalid) ∷ []) later h
 
   -- and back: the frame is done, so no test held
   pub done-frame : frameAnswer m memory out ≡ Done → Sound m × ((length memory ≤ MOST_MEMORY_WORDS) × (length out ≡ OUTPUT_VALUES))

@@ -175,9 +175,9 @@ sum-small m s c h = omega (arith, subst (λ (b : ℕ). getD m (SUMS + c) 0 ≤ b
 mixed-small : (a b : ℕ) → mixed a b < 8388608
 mixed-small a b = rw (mixed-is a b) (mod-lt (a + b) (lit< tt))
 
-pub sound-summed : {m : List ℕ} (c : ℕ) (z : ℤ) → Sound m → c < 12 → Sound (addedTo m (SUMS + c) z)
+pub sound-added-to : {m : List ℕ} (c : ℕ) (z : ℤ) → Sound m → c < 12 → Sound (addedTo m (SUMS + c) z)
 unfolding addedTo cut
-sound-summed {m} c z s h =
+sound-added-to {m} c z s h =
     sound-set (SUMS + c) _ s (omega arith) (rw (bits-sum c h) (small-cut 23 _ (mixed-small (getD m (SUMS + c) 0) (word 23 z)))) (λ e. absurd (let y : ⊥ = omega arith in y))
 
 pub sound-added : {m : List ℕ} (c : ℕ) (left right : ℤ) → Sound m → Sound (added m c left right)
@@ -186,7 +186,7 @@ sound-added {m} c left right s = either Sound (ltb c 6) _ _
     (λ t.
     let h = ltb-true c 6 t in
     let e : SUMS + 2 * c + 1 ≡ SUMS + (2 * c + 1) = omega arith in
-    rw e (sound-summed (2 * c + 1) right (sound-summed (2 * c) left s (omega arith)) (omega arith)))
+    rw e (sound-added-to (2 * c + 1) right (sound-added-to (2 * c) left s (omega arith)) (omega arith)))
     (λ t. s)
 
 pub sound-signalled : {m : List ℕ} (v CR : ℕ) → Sound m → v < 32 → Sound (signalled m v CR)
@@ -201,8 +201,8 @@ pub sound-turn : (memory : List ℕ) (v : ℕ) {m : List ℕ} → Sound m → v 
 unfolding turnAt
 sound-turn memory v {m} s h =
     let t = turnOf memory (getD m SLOW 0) (voiceOf (voiceAt m v)) in
-    sound-signalled v (t .voice .cr)
-    (sound-added (channelOf (getD (voiceAt m v) 0 0)) (t .left) (t .right)
+    sound-signalled v _
+    (sound-added _ _ _
     (sound-put v (wordsOf (t .voice)) s h (words-length (t .voice)) (turn-cut memory (getD m SLOW 0) (voiceAt m v) (λ j k. sound-voice m s v j h k))))
     h
 
