@@ -15,7 +15,7 @@
 
 #define LAST_SEED    1000u
 #define LEAST_BYTES  10000000u
-#define LEAST_FRAMES 100000u
+#define LEAST_FRAMES 200000u
 
 static void run_seed(uint64_t seed)
 {

@@ -12,9 +12,9 @@
  * the length after it says, and must not be null, even where that length is
  * 0. Buffers of one call must not overlap.
  *
- * A call answers 0 or the number of its refusal. It asks in the order of the
- * numbers, and a refused call changes no word of the record and no value of
- * the output; a refused otto_read sets its byte to 0.
+ * A call on a record answers 0 or the number of its refusal. It asks in the
+ * order of the numbers, and a refused call changes no word of the record and
+ * no value of the output; a refused otto_read sets its byte to 0.
  */
 #ifndef OTTO_H
 #define OTTO_H

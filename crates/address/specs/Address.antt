@@ -13,7 +13,7 @@ use Rattle.address.specs.declared.Place.{Place}
 unfoldable pub raised : ℕ → ℕ
 raised CR = cond (flagOf IRQE CR) (withBit IRQ 1 CR) CR
 
--- An event forward, by the loop mode BLE, LPE; d is how far the target is past END. CR has its flag raised already.
+-- An event forward, by the loop mode BLE, LPE; d is how far the target is past END. CR is `raised` already.
 --   0,0  stop at END, and set STP0
 --   0,1  go on from START
 --   1,0  likewise, and clear BLE and set LEI: this once

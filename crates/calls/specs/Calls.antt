@@ -1,6 +1,6 @@
 -- A call on a record, and a run of calls one after the other: what each answers and gives, and the record that it leaves. Every theorem
 -- about more than one call speaks of these.
--- In order: a call and its reply; what it answers; what it leaves; what it gives; a run. Assumes nothing.
+-- In order: a call; what it answers; what it leaves; what it gives; a run. Assumes nothing.
 use Prim.Native.Nat.{ℕ}
 use mathlib.Core.List.{List, [], _∷_, _++_}
 use lib.IntN.{ℤ}

@@ -1,4 +1,4 @@
--- The exponent of a compressed sample, by the magnitude t of the sample: t for t, and t for -(t + 1). What `exponent` promises
+-- The exponent of a compressed sample, by the magnitude of the sample: that of t is t, and so is that of -(t + 1). What `exponent` promises
 -- to `compress`. Assumes nothing.
 use Prim.Native.Nat.{ℕ, _+_, _^_, _<_, _≤_}
 

@@ -59,7 +59,8 @@ pub record Outcome : Type 0 where
   pub later : List ℕ
   pub sound : List ℤ
 
--- of what is lent, in the same order
+-- Of what is lent, in the same order. What an engine may remember of earlier calls does not enter: the promise fixes the outcome by what is
+-- lent now, so one that remembers keeps it only if it is such a function whatever it remembers.
 abbrev pub Engine : Type 0
 Engine = List ℕ → List ℕ → List ℤ → Ask → Outcome
 

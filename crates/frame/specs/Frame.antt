@@ -34,8 +34,8 @@ added m c left right = cond (ltb c 6) (addedTo (addedTo m (SUMS + 2 * c) left) (
 unfoldable pub signalled : List ℕ → ℕ → ℕ → List ℕ
 signalled m v CR = cond (flagOf IRQ CR && eqb (getD m IRQV 0) NO_INTERRUPT) (set m IRQV v) m
 
--- The turn of voice v. It is taken on the registers as they stand; they take the turn's; left and right are added to the sums of the channel
--- that the voice was on; and the interrupt step goes by the flag as the turn left it.
+-- The turn of voice v. It is taken on the registers as they stand; the voice's words become those that the turn leaves; left and right are
+-- added to the sums of the channel that the voice was on; and the interrupt step goes by the flag as the turn left it.
 unfoldable pub turnAt : List ℕ → ℕ → List ℕ → List ℕ
 turnAt memory v m =
     let before = voiceOf (voiceAt m v) in

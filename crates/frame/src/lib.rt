@@ -68,11 +68,11 @@ fn turn(m: &mut [u32], v: usize, slow: u32, memory: &[u16], lasts: &[usize; 4], 
     requires { ⌜ Expands (now table) ⌝ }
     ensures { λ _. ⌜ now (m .exit) ≡ turnAt (now (memory .entry)) v (now (m .entry)) ⌝ }
 {
-    let a = machine::VOICE_WORDS * v;
-    let e = a + machine::VOICE_WORDS;
-    let s = voice::turn(&mut m[a..e], slow, memory, lasts, table);
-    add(m, s.channel, s.left, s.right);
-    let cr = m[a + machine::CR];
+    let first = machine::VOICE_WORDS * v;
+    let end = first + machine::VOICE_WORDS;
+    let added = voice::turn(&mut m[first..end], slow, memory, lasts, table);
+    add(m, added.channel, added.left, added.right);
+    let cr = m[first + machine::CR];
     signal(m, v, cr);
 }
 
@@ -85,7 +85,7 @@ fn add(m: &mut [u32], channel: u32, left: i32, right: i32)
     ensures { λ _. ⌜ now (m .exit) ≡ added (now (m .entry)) channel left right ⌝ }
 {
     if channel < 6 {
-        let at = place(channel);
+        let at = left_sum(channel);
         add_to(m, at, left);
         add_to(m, at + 1, right);
     }
@@ -104,7 +104,7 @@ fn add_to(m: &mut [u32], at: usize, z: i32)
 }
 
 // The left sum of a channel.
-fn place(channel: u32) -> usize
+fn left_sum(channel: u32) -> usize
     requires { ⌜ channel < 6 ⌝ }
     ensures { λ r. ⌜ r ≡ SUMS + 2 * channel ⌝ }
 {
@@ -161,7 +161,7 @@ fn put_out(sums: &[u32], out: &mut [i32])
     }
 }
 
-// The slow-ramp counter's next value.
+// The slow-ramp counter's next value. It is cut first, so that the addition fits whatever it is.
 fn next(slow: u32) -> u32
     ensures { λ r. ⌜ r ≡ (slow + 1) % 8 ⌝ }
 {

@@ -1,4 +1,5 @@
--- What every call asks of the record that it is lent: its length, and then its validity. Assumes nothing.
+-- The two tests of a record that is lent, its length and its validity, and the check that every call on a record but a reset begins with.
+-- Assumes nothing.
 use Prim.Native.Nat.{ℕ}
 use mathlib.Core.Bool.{Bool, not}
 use mathlib.Core.List.{List, [], _∷_}
@@ -16,6 +17,6 @@ wrongLength m = not (eqb (length m) RECORD_WORDS)
 abbrev pub notValid : List ℕ → Bool
 notValid m = not (valid m)
 
--- what the check answers, which every call but a reset begins with
+-- what the check answers
 unfoldable pub checked : List ℕ → Answer
 checked m = firstRefusal ((wrongLength m, RecordLength) ∷ (notValid m, RecordInvalid) ∷ [])

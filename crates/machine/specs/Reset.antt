@@ -7,7 +7,7 @@ use lib.Dec.{eqb, ltb}
 use Rattle.answer.specs.Answer.{isDone, firstRefusal}
 use Rattle.answer.specs.declared.Answer.{Answer}
 use Rattle.answer.specs.declared.Answer.the-variants.{RecordLength}
-use Rattle.machine.specs.Words.{RECORD_WORDS, VOICE_WORDS, CR, PAGE, IRQV, PAR, ACTV, MODE, NO_INTERRUPT}
+use Rattle.machine.specs.Words.{RECORD_WORDS, VOICE_WORDS, CR, PAGE, IRQV, PAR, ACTV, MODE, NO_INTERRUPT, POT_LIMIT}
 use Rattle.machine.specs.Check.{wrongLength}
 
 unfoldable pub resetAnswer : List ℕ → Answer
@@ -18,7 +18,7 @@ unfoldable pub resetWord : ℕ → ℕ
 resetWord i =
     cond (ltb i PAGE) (cond (eqb (i % VOICE_WORDS) CR) 3 0)
     (cond (eqb i IRQV) NO_INTERRUPT
-    (cond (eqb i PAR) 1023
+    (cond (eqb i PAR) POT_LIMIT
     (cond (eqb i ACTV) 31
     (cond (eqb i MODE) 23 0))))
 

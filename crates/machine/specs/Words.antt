@@ -134,6 +134,10 @@ OUTPUT_VALUES = 12
 abbrev pub NO_INTERRUPT : ℕ
 NO_INTERRUPT = 128
 
+-- the greatest pot value, which PAR also holds after a reset and once it is read
+abbrev pub POT_LIMIT : ℕ
+POT_LIMIT = 1023
+
 -- ---- the bits kept
 
 -- bits hi to lo

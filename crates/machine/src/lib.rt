@@ -88,8 +88,14 @@ pub const OUTPUT_VALUES: usize = 12;
 
 pub const SUMS_END: usize = SUMS + OUTPUT_VALUES;
 
+// How many shared words there are.
+pub const SHARED_WORDS: usize = RECORD_WORDS - PAGE;
+
 // What the interrupt vector holds where it names no voice.
 pub const NO_INTERRUPT: u32 = 128;
+
+// The greatest pot value, which PAR also holds after a reset and once it is read.
+pub const POT_LIMIT: u32 = 1023;
 
 // The bits kept by a filter word of a voice, and by a sum: the check holds four of them at a time against one mask.
 const FILTER_BITS: u32 = 0x3FFFF;
@@ -120,7 +126,7 @@ const VOICE_BITS: [u32; VOICE_WORDS] = [
     FILTER_BITS, // O1(n-1)
 ];
 
-const SHARED_BITS: [u32; 23] = [
+const SHARED_BITS: [u32; SHARED_WORDS] = [
     0x7F, // PAGE
     0xFF, // IRQV
     0x3FF, // PAR
@@ -173,8 +179,8 @@ pub fn check(m: &[u32]) -> Answer
     for g in 0..4 {
         look_at_four(m, 4 * g, &kept, &mut stray);
     }
-    let above = SHARED_BITS;
-    look_at_rest(m, &above, &mut stray);
+    let shared = SHARED_BITS;
+    look_at_rest(m, &shared, &mut stray);
     if stray[0] | stray[1] | stray[2] | stray[3] != 0 {
         return Answer::RecordInvalid;
     }
@@ -189,7 +195,7 @@ pub fn check(m: &[u32]) -> Answer
 }
 
 // The stray bits of the voices' words j to j + 3 go into the lanes, a word to a lane.
-fn look_at_four(m: &[u32], j: usize, kept: &[u32; 20], stray: &mut [u32; 4])
+fn look_at_four(m: &[u32], j: usize, kept: &[u32; VOICE_WORDS], stray: &mut [u32; 4])
     requires { ⌜ length (now m) ≡ Words·RECORD_WORDS ⌝ }
     requires { ⌜ j + 4 ≤ 20 ⌝ }
     requires { ⌜ now kept ≡ voiceBits ⌝ }
@@ -204,7 +210,7 @@ fn look_at_four(m: &[u32], j: usize, kept: &[u32; 20], stray: &mut [u32; 4])
 
 // The stray bits of the voices' last four words, of the sums and of the words between go into the lanes. One mask serves the last four
 // words and one the sums; only the words between have masks of their own. They are eleven, so the last lane takes the first sum twice.
-fn look_at_rest(m: &[u32], kept: &[u32; 23], stray: &mut [u32; 4])
+fn look_at_rest(m: &[u32], kept: &[u32; SHARED_WORDS], stray: &mut [u32; 4])
     requires { ⌜ length (now m) ≡ Words·RECORD_WORDS ⌝ }
     requires { ⌜ now kept ≡ sharedBits ⌝ }
     requires { ⌜ Lanes (now stray) (gatheredKept (now m) 16) ⌝ }
@@ -283,7 +289,7 @@ fn reset_word(i: usize) -> u32
     }
     match i {
         IRQV => NO_INTERRUPT,
-        PAR => 1023,
+        PAR => POT_LIMIT,
         ACTV => 31,
         MODE => 23,
         _ => 0,

@@ -7,6 +7,7 @@ use Prim.Native.Nat.{ℕ, _/_, _%_, _<_, _≤_}
 use lib.Dec.{ltb}
 use lib.ListN.{getD, set}
 use borrow.Author.Tests.{lt-ltb, le-ltb, ltb-false}
+use Rattle.numbers.proofs.Tests.{split}
 use Rattle.answer.specs.Answer.{isDone, firstRefusal}
 use Rattle.answer.specs.declared.Answer.{Answer}
 use Rattle.answer.specs.declared.Answer.the-variants.{Done, RecordLength, RecordInvalid, Address}
@@ -47,6 +48,13 @@ module _ (m : List ℕ) (bound x : ℕ) (far : Answer) where
 pub byte-done : (m : List ℕ) (a : ℕ) → isDone (byteAnswer m a) ≡ true → Sound m × (a ≤ 63)
 unfolding byteAnswer
 byte-done m a d = asked-back m 63 a Address refl d
+
+-- an address above 63 is refused, whatever the record is
+pub far-refused : (m : List ℕ) (a : ℕ) → 63 < a → isDone (byteAnswer m a) ≡ false
+unfolding byteAnswer
+far-refused m a h = split _ (wrongLength m)
+    (λ t. rw t)
+    (λ t. split _ (notValid m) (λ v. rw (t, v)) (λ v. rw (t, v, lt-ltb 63 a h)))
 
 -- ---- each call
 

@@ -9,14 +9,18 @@ use lib.ListN.{getD, set}
 use Rattle.answer.specs.Answer.{isDone, firstRefusal}
 use Rattle.answer.specs.declared.Answer.{Answer}
 use Rattle.answer.specs.declared.Answer.the-variants.{RecordLength, RecordInvalid, Address, Pot}
-use Rattle.machine.specs.Words.{PAR, READ_LATCH}
+use Rattle.machine.specs.Words.{PAR, READ_LATCH, POT_LIMIT}
 use Rattle.machine.specs.Check.{wrongLength, notValid}
 use Rattle.registers.specs.Registers.{byteOf, writtenTo, readFrom}
 
 -- ---- write and read
 
+-- the greatest byte address: byte 3 of register 15
+abbrev pub ADDRESS_LIMIT : ℕ
+ADDRESS_LIMIT = 63
+
 unfoldable pub byteAnswer : List ℕ → ℕ → Answer
-byteAnswer m a = firstRefusal ((wrongLength m, RecordLength) ∷ (notValid m, RecordInvalid) ∷ (ltb 63 a, Address) ∷ [])
+byteAnswer m a = firstRefusal ((wrongLength m, RecordLength) ∷ (notValid m, RecordInvalid) ∷ (ltb ADDRESS_LIMIT a, Address) ∷ [])
 
 unfoldable pub writeRecord : List ℕ → ℕ → ℕ → List ℕ
 writeRecord m a b = cond (isDone (byteAnswer m a)) (writtenTo m (a / 4) (a % 4) b) m
@@ -41,7 +45,7 @@ pub record Reads (m : List ℕ) (a : ℕ) (answer : Answer) (byte : ℕ) (after 
 -- ---- the pot result
 
 unfoldable pub potAnswer : List ℕ → ℕ → Answer
-potAnswer m p = firstRefusal ((wrongLength m, RecordLength) ∷ (notValid m, RecordInvalid) ∷ (ltb 1023 p, Pot) ∷ [])
+potAnswer m p = firstRefusal ((wrongLength m, RecordLength) ∷ (notValid m, RecordInvalid) ∷ (ltb POT_LIMIT p, Pot) ∷ [])
 
 unfoldable pub potRecord : List ℕ → ℕ → List ℕ
 potRecord m p = cond (isDone (potAnswer m p)) (set m PAR p) m

@@ -7,7 +7,7 @@ use mathlib.Core.List.{List}
 use lib.Dec.{eqb, ltb}
 use lib.ListN.{getD, set}
 use Rattle.control.specs.Control.{withBit, IRQ}
-use Rattle.machine.specs.Words.{VOICES, CR, START, O4N1, PAGE, IRQV, PAR, ACTV, MODE, W_ST, WRITE_LATCH, READ_LATCH, SUMS, NO_INTERRUPT, voiceWord, cut}
+use Rattle.machine.specs.Words.{VOICES, CR, START, O4N1, PAGE, IRQV, PAR, ACTV, MODE, W_ST, WRITE_LATCH, READ_LATCH, SUMS, NO_INTERRUPT, POT_LIMIT, voiceWord, cut}
 use Rattle.registers.specs.declared.Register.{Register}
 use Rattle.registers.specs.declared.Register.the-variants.{Word, Sum, Par, Irqv, Nothing}
 
@@ -31,7 +31,7 @@ highPage v r =
 unfoldable pub sumPage : ℕ → Register
 sumPage r = cond (ltb r 12) (Sum (SUMS + r)) Nothing
 
--- Registers 13 to 15 are asked first, since they are the same on every page; what the pages above say of them is never asked.
+-- Registers 13 to 15 are asked first, since they are the same on every page; what the three definitions above say of them is never asked.
 unfoldable pub registerOf : ℕ → ℕ → Register
 registerOf page r =
     cond (eqb r 13) Par
@@ -84,7 +84,7 @@ acknowledged m =
 unfoldable pub sideEffect : List ℕ → Register → List ℕ
 sideEffect m (Word i) = m
 sideEffect m (Sum i) = m
-sideEffect m Par = set m PAR 1023
+sideEffect m Par = set m PAR POT_LIMIT
 sideEffect m Irqv = acknowledged m
 sideEffect m Nothing = m
 

@@ -12,6 +12,9 @@ ghost use Rattle.registers.specs.Inside.{Inside};
 ghost use Rattle.registers.specs.Access.{byteAnswer, Writes, Reads, SetsPot};
 use answer::Answer;
 
+// The greatest byte address: byte 3 of register 15.
+const ADDRESS_LIMIT: u32 = 63;
+
 // What a page and a register number name.
 pub enum Register {
     // A word of the record that reads and writes.
@@ -65,7 +68,7 @@ pub fn set_pot(m: &mut [u32], value: u32) -> Answer
     let Answer::Done = a else {
         return a;
     };
-    if 1023 < value {
+    if machine::POT_LIMIT < value {
         return Answer::Pot;
     }
     m[machine::PAR] = value;
@@ -80,7 +83,7 @@ fn refusal(m: &[u32], address: u32) -> Answer
     let Answer::Done = record else {
         return record;
     };
-    if 63 < address {
+    if ADDRESS_LIMIT < address {
         return Answer::Address;
     }
     Answer::Done
@@ -187,7 +190,7 @@ fn load(m: &mut [u32], register: Register)
         }
         Register::Par => {
             m[machine::READ_LATCH] = m[machine::PAR];
-            m[machine::PAR] = 1023;
+            m[machine::PAR] = machine::POT_LIMIT;
         }
         Register::Irqv => {
             m[machine::READ_LATCH] = m[machine::IRQV];
@@ -205,7 +208,7 @@ fn acknowledge(m: &mut [u32])
     ensures { λ _. ⌜ now (m .exit) ≡ acknowledged (now (m .entry)) ⌝ }
 {
     let voice = m[machine::IRQV];
-    if voice < 32 {
+    if voice < machine::VOICES as u32 {
         let i = machine::VOICE_WORDS * voice as usize + machine::CR;
         let cr = m[i];
         m[i] = control::with_bit(control::IRQ, 0, cr);

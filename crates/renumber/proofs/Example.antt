@@ -1,5 +1,6 @@
--- The theorem's hypotheses can be met, by machines and traces that differ wherever they may: two machines that were reset, one with a note in
--- voice 3 and one with it in voice 5, and two hosts that write its volume, one of them with a frame between the bytes.
+-- The theorem's hypotheses can be met, by machines and traces that differ: two machines that were reset, one with a note in voice 3 and one with
+-- it in voice 5, with another page, another vector and another interrupt flag, and two hosts that write its volume, one of them with a frame
+-- between the bytes.
 -- In order: the machines; voices 3 and 5 exchanged; the machines match; two traces; the theorem at them. Assumes nothing.
 use mathlib.Core.Path.{_≡_, refl, sym, ap, _∙_}
 use mathlib.Core.Logic.{_≢_}
@@ -22,7 +23,8 @@ use Rattle.machine.proofs.Parts.{voice-same, voice-set-shared, put-length, put-
 use Rattle.machine.proofs.Fresh.{fresh-length, fresh-at}
 use Rattle.machine.proofs.Valid.{Sound, sound}
 use Rattle.registers.specs.Registers.{registerOf, lowPage}
-use Rattle.calls.specs.Calls.{Call, Write, Read, SetPot, Frame, run, outputs}
+use Rattle.registers.proofs.Laws.{far-refused}
+use Rattle.calls.specs.Calls.{Call, Write, Read, SetPot, Frame, answerTo, run, outputs}
 use Rattle.renumber.specs.Demand.{Renumbering, SameVoice, Match, Put, ofVoice, idle, begun, Between, nothing, reading, potting, refused, paging, first, next, last}
 use Rattle.renumber.specs.Demand.{Log, End, Then, Trace, stop, SameWrites}
 use Rattle.renumber.specs.Score.{writes, Fits}
@@ -193,9 +195,9 @@ finishes s i =
     one-after-other d (one-write stopped (stretch s i d .moved .sound) fits-stopped)
 
 both-whole : {m : List ℕ} → Sound m → Between m idle whole (stopped ∷ volume 5 ∷ []) idle
-unfolding whole
+unfolding whole answerTo
 both-whole s =
-    let d = one-after-other (one-write stopped s fits-stopped) (potting 5 (paging 0 1 (lit< tt) (lit< tt) (refused 99 7 (lit< tt) nothing))) in
+    let d = one-after-other (one-write stopped s fits-stopped) (potting 5 (paging 0 1 (lit< tt) (lit< tt) (refused 99 7 (far-refused _ 99 (lit< tt)) nothing))) in
     one-after-other d (one-write (volume 5) (between s d .sound) (fits 5 (lit< tt)))
 
 same-writes : SameWrites exchanged (volume 3 ∷ stopped ∷ []) (stopped ∷ volume 5 ∷ [])

@@ -4,6 +4,7 @@
 -- results and refused writes; the write latch, byte by byte; the calls. Assumes nothing.
 use mathlib.Core.Path.{_≡_, refl, sym, ap, _∙_}
 use mathlib.Core.Logic.{_≢_}
+use mathlib.Core.Bool.{false}
 use mathlib.Core.List.{List, [], _∷_, _++_}
 use Prim.Native.Nat.{ℕ, zero, suc, _+_, _-_, _*_, _/_, _^_, _≤_, _<_}
 use native.Mathlib.Decide.{ℕ-discrete}
@@ -16,19 +17,17 @@ use lib.Seq.{getD-set-same, getD-set-other}
 use borrow.Author.Tests.{eqb-true, eq-eqb, ne-eqb, le-ltb}
 use Rattle.numbers.proofs.Tests.{either, split, cases}
 use Rattle.answer.specs.Answer.{isDone}
-use Rattle.answer.specs.declared.Answer.the-variants.{Address}
 use Rattle.machine.specs.Words.{CR, PAGE, IRQV, PAR, ACTV, SLOW, WRITE_LATCH, READ_LATCH, SUMS, voiceWord, cut, isVector, RECORD_WORDS}
 use Rattle.machine.specs.Voices.{voiceAt}
 use Rattle.machine.proofs.Parts.{voice-word, voice-length, voice-same, voice-set, voice-set-out}
 use Rattle.machine.proofs.Valid.{Sound, sound, is-valid, bits-voice, cut-again, sound-set}
 use Rattle.registers.specs.Registers.{registerOf, withByte, stored, writtenTo}
 use Rattle.registers.specs.declared.Register.the-variants.{Word}
-use Rattle.registers.specs.Access.{byteAnswer, writeRecord, readRecord, potAnswer, potRecord}
-use Rattle.registers.proofs.Laws.{asked-far}
+use Rattle.registers.specs.Access.{readRecord, potAnswer, potRecord}
 use Rattle.registers.proofs.Valid.{word-lt, write-latch, byte-lt}
 use Rattle.registers.proofs.Whole.{write-byte}
 use Rattle.registers.proofs.Corollaries.{read-valid, pot-valid, write-refused, read-keeps, read-flag}
-use Rattle.calls.specs.Calls.{Call, Write, Read, SetPot, after, run}
+use Rattle.calls.specs.Calls.{Call, Write, Read, SetPot, answerTo, after, run}
 use Rattle.renumber.specs.Demand.{SameVoice, Put, ofVoice, Phase, idle, begun, Between, nothing, reading, potting, refused, paging, first, next, last}
 use Rattle.renumber.proofs.Same.{same-equal, same-then, same-set}
 
@@ -197,11 +196,9 @@ no-move : {m : List ℕ} → Sound m → Moved m [] m
 unfolding puts
 no-move s = record { sound = s; voices = λ v h. same-equal refl; active = refl; slow = refl; sums = λ c h. refl }
 
-refused-quiet : {m : List ℕ} (a b : ℕ) → Sound m → 63 < a → Quiet m (after m (Write a b))
-unfolding after byteAnswer
-refused-quiet {m} a b s h =
-    let e : writeRecord m a b ≡ m = write-refused m a b (rw (asked-far m 63 a Address s h)) in
-    rw e (record { moved = no-move s; kept = record { page = refl; latch = refl } })
+refused-quiet : {m : List ℕ} (a b : ℕ) → Sound m → isDone (answerTo m (Write a b)) ≡ false → Quiet m (after m (Write a b))
+unfolding after answerTo
+refused-quiet {m} a b s h = rw (write-refused m a b h) (record { moved = no-move s; kept = record { page = refl; latch = refl } })
 
 -- ---- the write latch
 

@@ -100,7 +100,7 @@ along s {m} {n} sm sn pm pn R M (go-on {ψ = φ₁} {t = t} {u = u} memory out d
     rw (frame-word (run m t) memory out dm (a .sound) ACTV (lit≤ tt) (lit< tt) (λ e. omega arith) (λ e. omega arith)) R₁ in
     let r = along s (frame-sound (run m t) memory out dm (a .sound)) (frame-sound (run n t′) memory′ out′ dn (b .sound))
     (over-frame φ₁ memory out dm (a .sound) (p .phase)) (over-frame ψ₁ memory′ out′ dn (b .sound) (q .phase)) R₂ M₂ f g (w .2) in (
-      (F, M₂, r .0),
+      (M₁, F, M₂, r .0),
       then-frame (Frame memory out) u d ∙ ap₂ (λ x y. x ++ y) (F .values) (r .1) ∙ sym (then-frame (Frame memory′ out′) u′ e),
       rw (run-both m t (Frame memory out ∷ u), run-both n t′ (Frame memory′ out′ ∷ u′)) (r .2),
     )

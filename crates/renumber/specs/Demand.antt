@@ -4,12 +4,13 @@
 -- traces that are alike; what holds along them; the theorem. Assumes nothing.
 use mathlib.Core.Path.{_≡_}
 use mathlib.Core.Logic.{_≢_}
-use mathlib.Core.Bool.{true, cond}
+use mathlib.Core.Bool.{true, false, cond}
 use mathlib.Core.List.{List, [], _∷_, _++_}
 use Prim.Native.Nat.{ℕ, _+_, _*_, _≤_, _<_}
 use lib.Dec.{eqb}
 use lib.IntN.{ℤ}
 use lib.ListN.{length, getD}
+use Rattle.answer.specs.Answer.{isDone}
 use Rattle.answer.specs.declared.Answer.the-variants.{Done}
 use Rattle.control.specs.Control.{bitOf, IRQ}
 use Rattle.machine.specs.Words.{VOICES, VOICE_WORDS, CR, PAGE, ACTV, SLOW, SUMS, OUTPUT_VALUES, voiceWord, valid}
@@ -27,7 +28,7 @@ Into k s = (v : ℕ) → v < k → s v < k
 abbrev pub OneToOne : ℕ → (ℕ → ℕ) → Type 0
 OneToOne k s = (v u : ℕ) → v < k → u < k → s v ≡ s u → v ≡ u
 
--- voice v of the one machine is voice s v of the other; the active voices, 0 to the active count, become active ones
+-- voice v of the one machine is voice s v of the other; the active voices, 0 to `active`, become active ones
 pub record Renumbering (active : ℕ) (s : ℕ → ℕ) : Type 0 where
   pub into : Into VOICES s
   pub one-to-one : OneToOne VOICES s
@@ -77,7 +78,7 @@ pub data Between : List ℕ → Phase → List Call → List Put → Phase → T
       → Between (after m (Read a)) φ t ps ψ → Between m φ (Read a ∷ t) ps ψ
   potting : {m : List ℕ} {φ ψ : Phase} {t : List Call} {ps : List Put} (p : ℕ)
       → Between (after m (SetPot p)) φ t ps ψ → Between m φ (SetPot p ∷ t) ps ψ
-  refused : {m : List ℕ} {φ ψ : Phase} {t : List Call} {ps : List Put} (a b : ℕ) → 63 < a
+  refused : {m : List ℕ} {φ ψ : Phase} {t : List Call} {ps : List Put} (a b : ℕ) → isDone (answerTo m (Write a b)) ≡ false
       → Between (after m (Write a b)) φ t ps ψ → Between m φ (Write a b ∷ t) ps ψ
   -- a byte of PAGE, register 15: single bytes will do, in any order
   paging : {m : List ℕ} {ψ : Phase} {t : List Call} {ps : List Put} (k b : ℕ) → k < 4 → b < 256
@@ -103,11 +104,11 @@ pub data Log : Type 0 where
   End : List Put → Log
   Then : List Put → List ℕ → Log → Log
 
--- `Trace m φ t l`: on the record m, from the phase φ on, the calls t are allowed; between them stand frames, none refused; no write is left
--- unfinished in the end; and l is what they did. A frame is no write, so it may stand between the bytes of a whole write: the calls after it
--- go on with that write, which counts where its byte 3 stands.
+-- `Trace m φ t l`: on the record m, from the phase φ on, the calls t are allowed; between them stand frames, none refused; and l is what they
+-- did. A frame is no write, so it may stand between the bytes of a whole write: the calls after it go on with that write, which counts where
+-- its byte 3 stands. One that is unfinished in the end does not count.
 pub data Trace : List ℕ → Phase → List Call → Log → Type 0 where
-  stop : {m : List ℕ} {φ : Phase} {t : List Call} {ps : List Put} → Between m φ t ps idle → Trace m φ t (End ps)
+  stop : {m : List ℕ} {φ ψ : Phase} {t : List Call} {ps : List Put} → Between m φ t ps ψ → Trace m φ t (End ps)
   go-on : {m : List ℕ} {φ ψ : Phase} {t u : List Call} {ps : List Put} {l : Log} (memory : List ℕ) (out : List ℤ)
       → Between m φ t ps ψ → answerTo (run m t) (Frame memory out) ≡ Done
       → Trace (after (run m t) (Frame memory out)) ψ u l → Trace m φ (t ++ Frame memory out ∷ u) (Then ps memory l)
@@ -132,21 +133,22 @@ pub record SameFrame (m n : List ℕ) (c d : Call) : Type 0 where
   pub values : outputFrom m c ≡ outputFrom n d
   pub twelve : length (outputFrom m c) ≡ OUTPUT_VALUES
 
--- every frame does; after each, and after the calls that follow the last, the machines match
+-- every frame does; as it begins and after it, and after the calls that follow the last, the machines match
 abbrev pub Along : (s : ℕ → ℕ) {m n : List ℕ} {φ ψ : Phase} {t u : List Call} {l k : Log} → Trace m φ t l → Trace n ψ u k → Type 0
 Along s (stop {m = m} {t = t} b) (stop {m = n} {t = u} d) = Match s (run m t) (run n u)
 Along s (stop b) (go-on memory out d e f) = ⊥
 Along s (go-on memory out b e f) (stop d) = ⊥
 Along s (go-on {m = m} {t = t} memory out b e f) (go-on {m = n} {t = u} memory′ out′ d e′ g) =
-    SameFrame (run m t) (run n u) (Frame memory out) (Frame memory′ out′)
+    Match s (run m t) (run n u)
+    × SameFrame (run m t) (run n u) (Frame memory out) (Frame memory′ out′)
     × Match s (after (run m t) (Frame memory out)) (after (run n u) (Frame memory′ out′))
     × Along s f g
 
 -- ---- the theorem
 
 -- Two valid machines whose voices match under a renumbering of that kind, and two traces that are alike under it: every frame gives the
--- same twelve values, so that the whole output is the same; and after every frame and in the end matching voices hold the same registers,
--- interrupt flags excepted.
+-- same twelve values, so that the whole output is the same; and as every frame begins, after it and in the end matching voices hold the
+-- same registers, interrupt flags excepted.
 abbrev pub Inaudible : Type 0
 Inaudible =
     (s : ℕ → ℕ) (m n : List ℕ) → valid m ≡ true → valid n ≡ true → Renumbering (getD m ACTV 0) s → Match s m n

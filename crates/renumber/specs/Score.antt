@@ -8,7 +8,7 @@ use lib.Dec.{ltb}
 use lib.IntN.{pos}
 use lib.ListN.{length, replicate}
 use Rattle.sample.specs.Sample.{MOST_MEMORY_WORDS}
-use Rattle.machine.specs.Words.{VOICES, VOICE_WORDS, START}
+use Rattle.machine.specs.Words.{VOICES, VOICE_WORDS, START, OUTPUT_VALUES}
 use Rattle.registers.specs.Registers.{byteOf}
 use Rattle.calls.specs.Calls.{Call, Write, Frame}
 use Rattle.renumber.specs.Demand.{Put}
@@ -47,7 +47,7 @@ pub record Step : Type 0 where
 
 unfoldable pub callsOf : List Step → List Call
 callsOf [] = []
-callsOf (f ∷ fs) = allWrites (f .puts) ++ Frame (f .memory) (replicate 12 (pos 0)) ∷ callsOf fs
+callsOf (f ∷ fs) = allWrites (f .puts) ++ Frame (f .memory) (replicate OUTPUT_VALUES (pos 0)) ∷ callsOf fs
 
 -- ---- the score on other voices
 

@@ -10,7 +10,7 @@ ghost use Rattle.sample.specs.Lasts.{lastOf, Lasts};
 // How many words a bank has, and how many the memory may have at most: four banks.
 pub const BANK_WORDS: u32 = 2097152;
 
-pub const MOST_MEMORY_WORDS: usize = 8388608;
+pub const MOST_MEMORY_WORDS: usize = 4 * 2097152;
 
 // The two words of a fetch.
 struct Words {

@@ -1,8 +1,9 @@
 -- The checked figures, one table under one theorem. A row is a pair: what a definition gives, and the number that it has to be.
 -- `figures-hold` says that the table's two columns are the same list, by computation, so a new figure is a new row and nothing else.
--- The definitions are those that contracts cite, with one exception: samples are compressed by the promise `Compressed`, which says what
--- the code has to be and not how to find it, and `codeOf` finds it. So figure 2 stands once more after the table, over the promise.
--- Before the table stands what its rows share; after it also what two of the figures say of every value. Assumes nothing.
+-- The definitions are those that contracts cite, with two exceptions. Samples are compressed by the promise `Compressed`, which says what
+-- the code has to be and not how to find it, and `codeOf` finds it; so figure 2 stands once more after the table, over the promise. And
+-- `volumeOf` is `panned` once o = O4 / 4 is taken. Before the table stands what its rows share; after it also what figures 5, 8 and 12 say of
+-- every value. Assumes nothing.
 use mathlib.Core.Path.{_≡_, refl, _∙_}
 use mathlib.Core.List.{List, [], _∷_, map}
 use mathlib.Core.Bool.{false}
@@ -35,8 +36,8 @@ stops = 0
 abbrev loops : ℕ
 loops = withBit LPE 1 0
 
-abbrev turns : ℕ
-turns = withBit BLE 1 (withBit LPE 1 0)
+abbrev turns-round : ℕ
+turns-round = withBit BLE 1 (withBit LPE 1 0)
 
 -- in reverse
 abbrev back : ℕ → ℕ
@@ -86,10 +87,10 @@ figures =
     ∷ (accumAfter (record { cr = loops; fc = 1; start = 2048; end = 10240; accum = 10239 }), pos 10240)
     ∷ (accumAfter (record { cr = loops; fc = 1; start = 2048; end = 10240; accum = 10240 }), pos 2049)
     -- 9. a voice turns round at END; where the loop has no length, it does so past the end of the addresses
-    ∷ (accumAfter (record { cr = turns; fc = 5; start = 2048; end = 10240; accum = 10240 }), pos 10235)
-    ∷ (bitAfter DIR (record { cr = turns; fc = 5; start = 2048; end = 10240; accum = 10240 }), pos 1)
-    ∷ (accumAfter (record { cr = turns; fc = 5; start = 0; end = 0; accum = 0 }), pos 4294967291)
-    ∷ (bitAfter DIR (record { cr = turns; fc = 5; start = 0; end = 0; accum = 0 }), pos 1)
+    ∷ (accumAfter (record { cr = turns-round; fc = 5; start = 2048; end = 10240; accum = 10240 }), pos 10235)
+    ∷ (bitAfter DIR (record { cr = turns-round; fc = 5; start = 2048; end = 10240; accum = 10240 }), pos 1)
+    ∷ (accumAfter (record { cr = turns-round; fc = 5; start = 0; end = 0; accum = 0 }), pos 4294967291)
+    ∷ (bitAfter DIR (record { cr = turns-round; fc = 5; start = 0; end = 0; accum = 0 }), pos 1)
     -- 10. in reverse a target below 0 is past START
     ∷ (accumAfter (record { cr = (back stops); fc = 5; start = 0; end = 10240; accum = 3 }), pos 0)
     ∷ (bitAfter STP0 (record { cr = (back stops); fc = 5; start = 0; end = 10240; accum = 3 }), pos 1)

@@ -13,9 +13,9 @@ use Rattle.numbers.proofs.Tests.{listed, listed-at}
 use Rattle.filter.specs.declared.Poles.{Poles}
 use Rattle.address.specs.declared.Place.{Place}
 use Rattle.voice.specs.Voice.{Levels, voiceOf, wordsOf}
-use Rattle.voice.specs.Turn.{lastOutputs, rampedLevels, withOutputs, moved, sampled, stoppedTurn, runningTurn}
+use Rattle.voice.specs.Turn.{passing, levelsOf, lastOutputs, rampedLevels, withOutputs, moved, sampled, stoppedTurn, runningTurn}
 use Rattle.voice.specs.Ranges.{Ranges}
-use Rattle.voice.specs.Takes.{passing, placeOf, levelsOf, afterFilters, afterStep, afterRamps}
+use Rattle.voice.specs.Takes.{placeOf, afterFilters, afterStep, afterRamps}
 
 pub words-voice : (w : List ℕ) → length w ≡ 20 → wordsOf (voiceOf w) ≡ w
 unfolding wordsOf
@@ -80,7 +80,7 @@ module _ (w : List ℕ) (h : length w ≡ 20) where
   back-control = as-voice w h (λ l. getD w 0 0 ≡ getD (movedBack l) 0 0) refl
 
   pub back-passing : (x : ℤ) → passing x (voiceOf (movedBack w)) ≡ passing x (voiceOf w)
-  unfolding movedBack wordsOf passing lastOutputs
+  unfolding movedBack wordsOf lastOutputs
   back-passing x = as-voice w h (λ l. passing x (voiceOf (movedBack l)) ≡ passing x (voiceOf w)) refl
 
   pub outputs-stored : (p : Poles)
@@ -118,9 +118,9 @@ module _ (w : List ℕ) where
   -- the parts one after another are the turn
   pub parts-run : (memory : List ℕ) (slow : ℕ)
       → afterRamps slow (afterStep (afterFilters (sampled memory (voiceOf w)) w)) ≡ wordsOf (runningTurn memory slow (voiceOf w) .voice)
-  unfolding afterRamps afterStep afterFilters passing wordsOf withOutputs moved rampedLevels runningTurn
+  unfolding afterRamps afterStep afterFilters wordsOf withOutputs moved rampedLevels runningTurn
   parts-run memory slow = refl
 
   pub parts-stand : afterFilters (pos 0) w ≡ wordsOf (stoppedTurn (voiceOf w) .voice)
-  unfolding afterFilters passing stoppedTurn
+  unfolding afterFilters stoppedTurn
   parts-stand = refl

@@ -1,5 +1,5 @@
--- The ranges of a voice's registers, which a turn asks; that a turn keeps them is proofs/Keeps. A register that no turn changes and that
--- every value suits is not named. Assumes nothing.
+-- The ranges of a voice's registers, which a turn asks; that a turn keeps them is proofs/Keeps. FC, the ramps,
+-- START and END, which no turn changes, and ACCUM, which may be any 32 bits, are not named. Assumes nothing.
 use Prim.Native.Nat.{_<_}
 use Rattle.machine.specs.Words.{voiceRange, CR, LVOL, RVOL, ECOUNT, K2, K1, O4N1, O3N1, O3N2, O2N1, O2N2, O1N1}
 use Rattle.voice.specs.Voice.{Voice, Levels}

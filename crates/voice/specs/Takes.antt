@@ -9,27 +9,18 @@ use lib.IntN.{ℤ}
 use lib.ListN.{getD}
 use Rattle.numbers.specs.Numbers.{Bits, Within}
 use Rattle.control.specs.Control.{channelOf, runs}
-use Rattle.filter.specs.Filter.{filtered}
-use Rattle.filter.specs.declared.Poles.{Poles}
 use Rattle.address.specs.Address.{stepped}
 use Rattle.address.specs.declared.Place.{Place}
 use Rattle.machine.specs.Words.{CR}
 use Rattle.voice.specs.declared.Addend.{Addend}
-use Rattle.voice.specs.Voice.{Voice, Levels, voiceOf, wordsOf}
-use Rattle.voice.specs.Turn.{lastOutputs, rampedLevels, withOutputs, moved, turnOf}
+use Rattle.voice.specs.Voice.{Voice, voiceOf, wordsOf}
+use Rattle.voice.specs.Turn.{passing, levelsOf, rampedLevels, withOutputs, moved, turnOf}
 
 -- ---- the parts of a turn
 
--- the outputs of the poles when x passes
-unfoldable pub passing : ℤ → Voice → Poles
-passing x v = filtered (v .cr) (v .k1) (v .k2) x (lastOutputs v)
-
--- the place and the levels of a voice as they stand
+-- the place of a voice as it stands
 abbrev pub placeOf : Voice → Place
 placeOf v = record { accum = v .accum; cr = v .cr }
-
-abbrev pub levelsOf : Voice → Levels
-levelsOf v = record { ecount = v .ecount; lvol = v .lvol; rvol = v .rvol; k1 = v .k1; k2 = v .k2 }
 
 unfoldable pub afterFilters : ℤ → List ℕ → List ℕ
 afterFilters x w = let v = voiceOf w in wordsOf (withOutputs v (passing x v))

@@ -1,6 +1,6 @@
 -- One turn of a voice: its twenty registers, the slow-ramp counter and the sample memory in; the registers afterwards and what it adds to
 -- the left and right sums of its channel out. The turn does not know the voice's number.
--- In order: the poles' last outputs as numbers; the levels that ramps move; a voice with new outputs, and one moved; the turn of a
+-- In order: the poles' last outputs as numbers, and their new ones; the levels that ramps move; a voice with new outputs, and one moved; the turn of a
 -- stopped voice; that of a running one; the turn.
 -- Every rule reads the registers as they stood when the turn began. Assumes nothing.
 use Prim.Native.Nat.{ℕ, _-_}
@@ -23,11 +23,18 @@ use Rattle.voice.specs.Voice.{Voice, Levels, Turn}
 unfoldable pub lastOutputs : Voice → Poles
 lastOutputs v = record { o1 = signed 18 (v .o1n1); o2 = signed 18 (v .o2n1); o3 = signed 18 (v .o3n1); o4 = signed 18 (v .o4n1) }
 
--- the levels after the ramps, which work while ECOUNT is not 0 and count it down
+-- the outputs of the poles when x passes
+abbrev pub passing : ℤ → Voice → Poles
+passing x v = filtered (v .cr) (v .k1) (v .k2) x (lastOutputs v)
+
+-- the levels as they stand, and after the ramps, which work while ECOUNT is not 0 and count it down
+abbrev pub levelsOf : Voice → Levels
+levelsOf v = record { ecount = v .ecount; lvol = v .lvol; rvol = v .rvol; k1 = v .k1; k2 = v .k2 }
+
 unfoldable pub rampedLevels : ℕ → Voice → Levels
 rampedLevels slow v =
     cond (eqb (v .ecount) 0)
-    (record { ecount = v .ecount; lvol = v .lvol; rvol = v .rvol; k1 = v .k1; k2 = v .k2 })
+    (levelsOf v)
     (record {
       ecount = v .ecount - 1;
       lvol = ramped (v .lvol) (v .lvramp);
@@ -90,7 +97,7 @@ moved v a l =
 
 -- A stopped voice reads no memory, so its poles take 0 in; nothing else of it works. It adds nothing to its channel.
 unfoldable pub stoppedTurn : Voice → Turn
-stoppedTurn v = record { voice = withOutputs v (filtered (v .cr) (v .k1) (v .k2) (pos 0) (lastOutputs v)); left = pos 0; right = pos 0 }
+stoppedTurn v = record { voice = withOutputs v (passing (pos 0) v); left = pos 0; right = pos 0 }
 
 -- the value that a running voice's poles take in
 unfoldable pub sampled : List ℕ → Voice → ℤ
@@ -99,7 +106,7 @@ sampled memory v = let s = fetched memory (v .cr) (v .accum) in interpolated (fr
 -- A running voice: sample, filters, volume, address and ramps.
 unfoldable pub runningTurn : List ℕ → ℕ → Voice → Turn
 runningTurn memory slow v =
-    let p = filtered (v .cr) (v .k1) (v .k2) (sampled memory v) (lastOutputs v) in
+    let p = passing (sampled memory v) v in
     record {
       voice = moved (withOutputs v p) (stepped (v .cr) (v .fc) (v .start) (v .end) (v .accum)) (rampedLevels slow v);
       left = panned (v .lvol) (p .o4);

@@ -13,9 +13,9 @@ ghost use Rattle.filter.specs.PoleBits.{PoleBits};
 ghost use Rattle.sample.specs.Lasts.{Lasts};
 ghost use Rattle.machine.specs.Words.{VOICE_WORDS, CR, FC, ACCUM};
 ghost use Rattle.voice.specs.Voice.{voiceOf};
-ghost use Rattle.voice.specs.Turn.{sampled, lastOutputs};
+ghost use Rattle.voice.specs.Turn.{sampled, lastOutputs, levelsOf};
 ghost use Rattle.voice.specs.Ranges.{Ranges, Leveled};
-ghost use Rattle.voice.specs.Takes.{levelsOf, afterStep, afterRamps, Passes, TakesTurn};
+ghost use Rattle.voice.specs.Takes.{afterStep, afterRamps, Passes, TakesTurn};
 use filter::Poles;
 
 // What a turn adds to the left and right sums of a channel; channel 7 is none.

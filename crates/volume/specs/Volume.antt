@@ -14,6 +14,6 @@ exponent VOL = VOL / 4096
 unfoldable pub volumeOf : ℕ → ℤ → ℤ
 volumeOf VOL o = floorDiv (floorDiv (o *ℤ pos (256 + mantissa VOL)) 32) (2 ^ (15 - exponent VOL))
 
--- what pole 4's output, of 18 bits, gives to the volume: its upper 16
+-- pole 4's output at that volume: o is its upper 16 of 18 bits
 unfoldable pub panned : ℕ → ℤ → ℤ
 panned VOL o4 = volumeOf VOL (floorDiv o4 4)

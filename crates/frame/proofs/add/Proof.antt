@@ -21,7 +21,7 @@ next-sum m c z = added-to-other m (SUMS + 2 * c) (SUMS + 2 * c + 1) z (λ e. ome
 add-to-requires : tie.Need-add-to-requires
 add-to-requires c κs =
     let s = c .before .before .before .before in
-    let e = c .before .place .ensures in (
+    let e = c .before .left-sum .ensures in (
       omega (arith, s .pre .0, e),
       (
         rw e (s .pre .1 .0 (2 * s .args .channel) (omega arith)),
@@ -32,7 +32,7 @@ add-to-requires c κs =
 add-to-requires-2 : tie.Need-add-to-requires-2
 add-to-requires-2 c κs =
     let s = c .before .before .before .before .before .before .before .before in
-    let e = c .before .before .before .before .before .place .ensures in
+    let e = c .before .before .before .before .before .left-sum .ensures in
     let f = c .before .before .before .add-to in (
       omega (arith, s .pre .0, e, f .kept .0),
       (
@@ -45,7 +45,7 @@ returns : tie.Need-returns
 returns c =
     let t = c .before .before .before .before .before .before .before .before .before in
     let s = t .before .before in
-    rw (c .before .before .add-to2 .ensures, c .before .before .before .before .before .before .add-to .ensures, toZ-ofZ (s .fits .left), toZ-ofZ (s .fits .right), c .before .before .before .before .before .before .before .before .place .ensures)
+    rw (c .before .before .add-to2 .ensures, c .before .before .before .before .before .before .add-to .ensures, toZ-ofZ (s .fits .left), toZ-ofZ (s .fits .right), c .before .before .before .before .before .before .before .before .left-sum .ensures)
     (sym (added-in _ _ _ _ (t .if1 .taken)))
 
 pub add-spec : {M : Type 1} → statement M

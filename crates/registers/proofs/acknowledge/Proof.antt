@@ -49,6 +49,7 @@ acknowledge-spec =
     (λ c. search needs)
     (λ c. search needs)
     (λ c. search needs)
+    (λ c. search needs)
     slice-read-cr
     with-bit-requires
     (λ c. search needs)

@@ -10,8 +10,8 @@ use Rattle.numbers.specs.Numbers.{word}
 use Rattle.numbers.proofs.Local.{held, within, bits-held}
 use Rattle.filter.specs.declared.Poles.{Poles}
 use Rattle.voice.specs.Voice.{voiceOf, wordsOf}
-use Rattle.voice.specs.Turn.{lastOutputs, withOutputs}
-use Rattle.voice.specs.Takes.{passing, afterFilters}
+use Rattle.voice.specs.Turn.{passing, lastOutputs, withOutputs}
+use Rattle.voice.specs.Takes.{afterFilters}
 use Rattle.voice.proofs.Words.{movedBack, back-length, back-ranges, back-control, back-passing, outputs-stored}
 use Rattle.voice.proofs.pass.Statement.{statement}
 use Rattle.voice.proofs.pass.Tie as tie
@@ -30,7 +30,7 @@ filter-requires c κs =
     (r .k1, (r .k2, (bits-held w32 tt (s .pre .1 .1 .1), c .last-outputs .ensures .1)))
 
 returns : tie.Need-returns
-unfolding movedBack passing afterFilters
+unfolding movedBack afterFilters
 returns c =
     let f = c .before .before .before .before .before .before .before .before .before in
     let s = f .before .before .before .before .before .before .before .before in

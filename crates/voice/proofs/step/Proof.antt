@@ -17,8 +17,8 @@ use Rattle.address.specs.declared.Place.{Place}
 use Rattle.address.proofs.Laws.{back-test, on-within, back-within}
 use Rattle.control.specs.Control.{flagOf, DIR}
 use Rattle.voice.specs.Voice.{voiceOf, wordsOf}
-use Rattle.voice.specs.Turn.{moved}
-use Rattle.voice.specs.Takes.{levelsOf, afterStep}
+use Rattle.voice.specs.Turn.{levelsOf, moved}
+use Rattle.voice.specs.Takes.{afterStep}
 use Rattle.voice.proofs.Words.{accum-stored}
 use Rattle.voice.proofs.step.Statement.{statement}
 use Rattle.voice.proofs.step.Tie as tie

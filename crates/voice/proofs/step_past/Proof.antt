@@ -4,8 +4,8 @@ use borrow.Author.Needs.{needs}
 use Rattle.address.specs.Address.{stepped}
 use Rattle.address.specs.declared.Place.{Place}
 use Rattle.voice.specs.Voice.{voiceOf, wordsOf}
-use Rattle.voice.specs.Turn.{moved}
-use Rattle.voice.specs.Takes.{levelsOf, afterStep}
+use Rattle.voice.specs.Turn.{levelsOf, moved}
+use Rattle.voice.specs.Takes.{afterStep}
 use Rattle.voice.proofs.Words.{place-stored}
 use Rattle.voice.proofs.step_past.Statement.{statement}
 use Rattle.voice.proofs.step_past.Tie as tie

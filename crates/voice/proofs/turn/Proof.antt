@@ -15,9 +15,9 @@ use Rattle.numbers.proofs.Local.{back, handed, bits-back}
 use Rattle.control.specs.Control.{runs}
 use Rattle.volume.specs.Volume.{panned}
 use Rattle.voice.specs.Voice.{Turn, voiceOf, wordsOf}
-use Rattle.voice.specs.Turn.{sampled, runningTurn, stoppedTurn}
+use Rattle.voice.specs.Turn.{passing, levelsOf, sampled, runningTurn, stoppedTurn}
 use Rattle.voice.specs.Ranges.{Leveled}
-use Rattle.voice.specs.Takes.{passing, levelsOf, afterFilters, afterStep, afterRamps}
+use Rattle.voice.specs.Takes.{afterFilters, afterStep, afterRamps}
 use Rattle.voice.proofs.Laws.{turn-runs, turn-stands}
 use Rattle.voice.proofs.Words.{filters-length, step-length, filters-control, filters-levels, step-levels, parts-run, parts-stand}
 use Rattle.voice.proofs.turn.Statement.{statement}
@@ -71,7 +71,7 @@ module _ (c : tie.Then1) where
   output = let p = c .before .before .before .before .pass in back w32 (p .ok) ∙ p .ensures .output ∙ ap (λ (x : ℤ). passing x (voiceOf words) .o4) sample-in
 
 returns : tie.Need-returns
-unfolding runningTurn passing
+unfolding runningTurn
 returns c =
     let r = c .before .before .before .before .before .before .before .before .before .before .before .before .before in
     let p = r .before .before .before .before in
