@@ -1,2 +1,3 @@
 pub mod Performs
 pub mod Valid
+pub mod Runs

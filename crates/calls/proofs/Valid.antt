@@ -13,7 +13,7 @@ use Rattle.machine.proofs.Valid.{sound, is-valid}
 use Rattle.registers.proofs.Corollaries.{write-valid, read-valid, pot-valid}
 use Rattle.frame.specs.Frame.{played, closed, frameAnswer, frameRecord}
 use Rattle.frame.proofs.Keeps.{sound-played}
-use Rattle.frame.proofs.Turns.{sound-closed}
+use Rattle.frame.proofs.Leaves.{sound-closed}
 use Rattle.calls.specs.Calls.{Call, Reset, Write, Read, SetPot, Frame, after, run}
 
 frame-valid : (m memory : List ℕ) (out : List ℤ) → valid m ≡ true → valid (frameRecord m memory out) ≡ true

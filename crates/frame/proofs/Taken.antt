@@ -26,7 +26,7 @@ use Rattle.voice.proofs.Laws.{turn-stands}
 use Rattle.frame.specs.Frame.{addedTo, added, signalled, turnAt}
 use Rattle.frame.proofs.Steps.{added-none}
 use Rattle.frame.proofs.Keeps.{sum-small, words-length, turn-cut}
-use Rattle.frame.proofs.Turns.{added-word}
+use Rattle.frame.proofs.Leaves.{added-word}
 
 -- ---- nothing added
 

@@ -28,7 +28,7 @@ use Rattle.renumber.specs.Demand.{Log, End, Then, Trace, stop, go-on, Sa
 use Rattle.renumber.specs.Score.{pageFor, registerFor, writes, allWrites, Step, callsOf, putOn, stepOn, Fits, AllFit, Playable}
 use Rattle.renumber.proofs.Same.{same-equal}
 use Rattle.renumber.proofs.Stretch.{In, stretch, between, last-written, page-named}
-use Rattle.renumber.proofs.Frame.{frame-sound}
+use Rattle.calls.proofs.Runs.{frame-sound}
 use Rattle.renumber.proofs.Theorem.{over-frame, inaudible}
 
 -- ---- parts put together

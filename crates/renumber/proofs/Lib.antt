@@ -1,4 +1,3 @@
-pub mod Sum
 pub mod Same
 pub mod Frame
 pub mod Stretch

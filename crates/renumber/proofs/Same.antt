@@ -14,7 +14,7 @@ use Rattle.control.specs.Control.{bitOf}
 use Rattle.control.proofs.Agree.{channel-agrees}
 use Rattle.voice.specs.Voice.{Voice, voiceOf, wordsOf}
 use Rattle.voice.proofs.Flag.{besideCR, ButFlag, same-turn}
-use Rattle.frame.proofs.Turns.{wordsAfter, portion, share}
+use Rattle.frame.proofs.Leaves.{wordsAfter, portion, share}
 use Rattle.renumber.specs.Demand.{SameVoice}
 
 -- ---- as good as equal

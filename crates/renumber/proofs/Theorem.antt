@@ -1,8 +1,8 @@
 -- Which voice plays a note is inaudible: the theorem, for every pair of traces that it speaks of.
--- In order: two machines after the calls between two frames; the output of a run; a write over a frame; the traces, frame by frame; the
+-- In order: two machines after the calls between two frames; that those put nothing out; a write over a frame; the traces, frame by frame; the
 -- theorem. Assumes nothing.
 use mathlib.Core.Path.{_≡_, refl, sym, ap, ap₂, _∙_}
-use mathlib.Core.List.{List, [], _∷_, _++_, append-nil}
+use mathlib.Core.List.{List, [], _∷_, _++_}
 use Prim.Native.Nat.{ℕ}
 use native.Mathlib.Omega.{arith}
 use lib.Dec.{lit<, lit≤}
@@ -13,10 +13,11 @@ use Rattle.machine.specs.Words.{PAGE, ACTV, WRITE_LATCH}
 use Rattle.machine.specs.Voices.{voiceAt}
 use Rattle.machine.proofs.Valid.{Sound, sound}
 use Rattle.calls.specs.Calls.{Call, Frame, answerTo, after, outputFrom, run, outputs}
+use Rattle.calls.proofs.Runs.{run-both, outputs-at, frame-sound, frame-word}
 use Rattle.renumber.specs.Demand.{Into, Renumbering, Match, Put, ofVoice, Phase, Between, nothing, reading, potting, refused, paging, first, next, last}
 use Rattle.renumber.specs.Demand.{Log, Trace, stop, go-on, SameWrites, Alike, SameFrame, Along, Inaudible}
 use Rattle.renumber.proofs.Same.{same-equal, same-back, same-then}
-use Rattle.renumber.proofs.Frame.{frame-same, frame-match, frame-sound, frame-word}
+use Rattle.renumber.proofs.Frame.{frame-same, frame-match}
 use Rattle.renumber.proofs.Stretch.{Moved, puts, puts-same, voice-size, In, in-kept, stretch}
 
 -- ---- two machines after the calls between two frames
@@ -33,33 +34,18 @@ moved-match {s} {m} {n} {m′} {n′} {ps} {qs} into sm sn a b w M = record {
   sums = λ c h. a .sums c h ∙ M .sums c h ∙ sym (b .sums c h);
 }
 
--- ---- the output of a run
+-- ---- the calls between two frames put nothing out
 
-pub run-both : (m : List ℕ) (t u : List Call) → run m (t ++ u) ≡ run (run m t) u
-unfolding run
-run-both m [] u = refl
-run-both m (c ∷ t) u = run-both (after m c) t u
-
--- the calls between two frames put nothing out
-silent : {m : List ℕ} {φ ψ : Phase} {t : List Call} {ps : List Put} (u : List Call) → Between m φ t ps ψ → outputs m (t ++ u) ≡ outputs (run m t) u
-unfolding run outputs outputFrom
-silent u nothing = refl
-silent u (reading a d) = silent u d
-silent u (potting p d) = silent u d
-silent u (refused a b l d) = silent u d
-silent u (paging k b hk hb d) = silent u d
-silent u (first r v j b hr hv hj hb e d) = silent u d
-silent u (next b hk hb d) = silent u d
-silent u (last b hb d) = silent u d
-
-silent-end : {m : List ℕ} {φ ψ : Phase} {t : List Call} {ps : List Put} → Between m φ t ps ψ → outputs m t ≡ []
-unfolding outputs
-silent-end {m} {t} d = ap (outputs m) (sym (append-nil t)) ∙ silent [] d
-
-then-frame : {m : List ℕ} {φ ψ : Phase} {t : List Call} {ps : List Put} (c : Call) (u : List Call) → Between m φ t ps ψ
-    → outputs m (t ++ c ∷ u) ≡ outputFrom (run m t) c ++ outputs (after (run m t) c) u
-unfolding outputs
-then-frame c u d = silent (c ∷ u) d
+silent : {m : List ℕ} {φ ψ : Phase} {t : List Call} {ps : List Put} → Between m φ t ps ψ → outputs m t ≡ []
+unfolding outputs outputFrom
+silent nothing = refl
+silent (reading a d) = silent d
+silent (potting p d) = silent d
+silent (refused a b l d) = silent d
+silent (paging k b hk hb d) = silent d
+silent (first r v j b hr hv hj hb e d) = silent d
+silent (next b hk hb d) = silent d
+silent (last b hb d) = silent d
 
 -- ---- a write over a frame
 
@@ -81,7 +67,7 @@ along : (s : ℕ → ℕ) {m n : List ℕ} {φ ψ : Phase} {t u : List Call} {l 
 unfolding run
 along s sm sn pm pn R M (stop d) (stop e) w =
     let q = moved-match (R .into) sm sn (stretch sm pm d .moved) (stretch sn pn e .moved) w M in
-    (q, silent-end d ∙ sym (silent-end e), q)
+    (q, silent d ∙ sym (silent e), q)
 along s sm sn pm pn R M (stop d) (go-on memory out e a f) w = absurd w
 along s sm sn pm pn R M (go-on memory out d a f) (stop e) w = absurd w
 along s {m} {n} sm sn pm pn R M (go-on {ψ = φ₁} {t = t} {u = u} memory out d dm f) (go-on {ψ = ψ₁} {t = t′} {u = u′} memory′ out′ e dn g) w =
@@ -101,7 +87,7 @@ along s {m} {n} sm sn pm pn R M (go-on {ψ = φ₁} {t = t} {u = u} memory out d
     let r = along s (frame-sound (run m t) memory out dm (a .sound)) (frame-sound (run n t′) memory′ out′ dn (b .sound))
     (over-frame φ₁ memory out dm (a .sound) (p .phase)) (over-frame ψ₁ memory′ out′ dn (b .sound) (q .phase)) R₂ M₂ f g (w .2) in (
       (M₁, F, M₂, r .0),
-      then-frame (Frame memory out) u d ∙ ap₂ (λ x y. x ++ y) (F .values) (r .1) ∙ sym (then-frame (Frame memory′ out′) u′ e),
+      outputs-at m t (Frame memory out) u (silent d) ∙ ap₂ (λ x y. x ++ y) (F .values) (r .1) ∙ sym (outputs-at n t′ (Frame memory′ out′) u′ (silent e)),
       rw (run-both m t (Frame memory out ∷ u), run-both n t′ (Frame memory′ out′ ∷ u′)) (r .2),
     )
 

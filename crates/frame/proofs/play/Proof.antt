@@ -16,7 +16,7 @@ use Rattle.machine.specs.Words.{valid, ACTV, SLOW}
 use Rattle.machine.proofs.Valid.{Sound, sound, is-valid}
 use Rattle.frame.specs.Frame.{turnAt, turns, played}
 use Rattle.frame.proofs.Keeps.{active-le, sound-turns}
-use Rattle.frame.proofs.Turns.{turns-slow}
+use Rattle.frame.proofs.Leaves.{slow-stays, turned}
 use Rattle.frame.proofs.play.Statement.{statement}
 use Rattle.frame.proofs.play.Tie as tie
 
@@ -62,7 +62,7 @@ turn-requires c κs =
       (
         omega arith,
         (
-          h .counter ∙ sym (ap (λ (x : List ℕ). getD x SLOW 0) (h .so-far) ∙ turns-slow memory (l .v) (h .whole) few),
+          h .counter ∙ sym (ap (λ (x : List ℕ). getD x SLOW 0) (h .so-far) ∙ slow-stays (turned memory (l .v) few (h .whole))),
           (h .near, h .codes),
         ),
       ),

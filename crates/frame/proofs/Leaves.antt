@@ -1,13 +1,17 @@
--- What a turn leaves of each voice, of each sum and of each other word that it is not to touch; and what the closing leaves and puts out.
--- In order: what a turn does with a voice's words, and what it adds to each sum; the parts of a turn; the turn; the turns;
--- the closing; the output.
+-- What a turn, the turns and the closing leave, voice by voice and word by word; and what is put out.
+-- In order: what a turn does with a voice's words (`wordsAfter`), and what it adds to each sum (`share`); the parts of a turn (`signalled-…`,
+-- `added-…`); the turn (`turn-word`, `turn-vector`, `turn-sum`, `turn-same`, `turn-other`); the turns of voices 0 to k - 1 (`Turned`, `turned`,
+-- `all-turned`); the closing (`silenced-…`, `closed-…`, `sound-closed`); both (`closed-stays`); the output (`heard-…`).
+-- That a turn and the turns keep a record valid is Keeps, and what one voice's turn does to its own registers is the crate `voice`.
 -- Assumes nothing.
 use mathlib.Core.Path.{_≡_, refl, sym, ap, _∙_}
 use mathlib.Core.Bool.{cond, _&&_}
 use mathlib.Core.List.{List, _++_, map}
 use mathlib.Core.Logic.{_≢_}
 use Prim.Native.Nat.{ℕ, zero, suc, _+_, _-_, _*_, _%_, _<_, _≤_}
-use native.Mathlib.Nat.{mod-eq-of-lt}
+use native.Mathlib.Decide.{ℕ-discrete}
+use native.Mathlib.Nat.{mod-eq-of-lt, not-suc-le-zero, mod-add-mod, add-assoc}
+use native.Mathlib.Numerals.{add-one}
 use native.Mathlib.Omega.{arith}
 use borrow.Author.Tests.{eqb-true, eqb-false, ltb-true, ltb-false, ne-eqb}
 use lib.Bits.{bitAnd, and-mask}
@@ -16,19 +20,20 @@ use lib.IntN.{ℤ}
 use lib.ListN.{length, getD, set, take, drop, replicate, length-drop, length-append, length-map, getD-replicate, List·getD-append}
 use lib.Seq.{getD-take, getD-drop, getD-append-add, getD-set-same, getD-set-other, length-take-le, ext-getD}
 use Rattle.numbers.specs.Numbers.{word}
-use Rattle.numbers.proofs.Tests.{either, cases}
+use Rattle.numbers.proofs.Tests.{either, split, cases}
 use Rattle.control.specs.Control.{flagOf, channelOf, IRQ}
 use Rattle.channel.specs.Channel.{mixed, putOut}
 use Rattle.channel.proofs.Laws.{mixed-is}
-use Rattle.machine.specs.Words.{PAGE, IRQV, SLOW, SUMS, bitsOf, sharedBits, cut, RECORD_WORDS}
+use Rattle.machine.specs.Words.{PAGE, IRQV, ACTV, SLOW, SUMS, NO_INTERRUPT, bitsOf, sharedBits, cut, RECORD_WORDS}
 use Rattle.machine.specs.Voices.{voiceAt, putVoice}
 use Rattle.machine.proofs.Parts.{voice-set-shared, voice-same, put-length, put-same, put-other, put-out}
 use Rattle.machine.proofs.Valid.{Sound, sound-set, sound-put, sound-voice}
 use Rattle.voice.specs.Turn.{turnOf}
 use Rattle.voice.specs.Voice.{voiceOf, wordsOf}
-use Rattle.frame.specs.Frame.{addedTo, added, signalled, turnAt, turns, heard, silenced, closed}
+use Rattle.frame.specs.Frame.{addedTo, added, signalled, turnAt, turns, played, heard, silenced, closed}
 use Rattle.frame.proofs.Steps.{added-to-length, added-to-other}
-use Rattle.frame.proofs.Keeps.{sum-small, words-length, turn-cut, sound-turns}
+use Rattle.frame.proofs.Keeps.{sum-small, words-length, turn-cut, sound-turn, active-le}
+use Rattle.frame.proofs.Sum.{sum}
 
 -- ---- what a turn does with a voice's words, and what it adds to each sum
 
@@ -45,12 +50,19 @@ share memory slow w i = let t = turnOf memory slow (voiceOf w) in portion (chann
 -- ---- the parts of a turn
 
 module _ (m : List ℕ) (v CR : ℕ) where
-  signalled-word : (i : ℕ) → i ≢ IRQV → getD (signalled m v CR) i 0 ≡ getD m i 0
+  pub signalled-word : (i : ℕ) → i ≢ IRQV → getD (signalled m v CR) i 0 ≡ getD m i 0
   unfolding signalled
   signalled-word i h = either (λ r. getD r i 0 ≡ getD m i 0) (flagOf IRQ CR && eqb (getD m IRQV 0) 128) (set m IRQV v) m
       (λ _. getD-set-other m IRQV i v 0 h) (λ _. refl)
 
-  signalled-voice : (u : ℕ) → length m ≡ RECORD_WORDS → u < 32 → voiceAt (signalled m v CR) u ≡ voiceAt m u
+  -- the vector, if it is empty, takes a voice that waits
+  signalled-vector : length m ≡ RECORD_WORDS → getD (signalled m v CR) IRQV 0 ≡ cond (flagOf IRQ CR && eqb (getD m IRQV 0) NO_INTERRUPT) v (getD m IRQV 0)
+  unfolding signalled
+  signalled-vector l = split _ (flagOf IRQ CR && eqb (getD m IRQV 0) NO_INTERRUPT)
+      (λ t. rw t (getD-set-same m IRQV v 0 (omega arith)))
+      (λ t. rw t)
+
+  pub signalled-voice : (u : ℕ) → length m ≡ RECORD_WORDS → u < 32 → voiceAt (signalled m v CR) u ≡ voiceAt m u
   unfolding signalled
   signalled-voice u l h = either (λ r. voiceAt r u ≡ voiceAt m u) (flagOf IRQ CR && eqb (getD m IRQV 0) 128) (set m IRQV v) m
       (λ _. voice-set-shared m u IRQV v l h (omega arith)) (λ _. refl)
@@ -72,7 +84,7 @@ module _ (m : List ℕ) (channel : ℕ) (left right : ℤ) where
       (λ _. added-to-other n (SUMS + 2 * channel + 1) i right (λ e. omega arith) ∙ added-to-other m (SUMS + 2 * channel) i left (λ e. omega arith))
       (λ _. refl)
 
-  added-voice : (u : ℕ) → length m ≡ RECORD_WORDS → u < 32 → voiceAt (added m channel left right) u ≡ voiceAt m u
+  pub added-voice : (u : ℕ) → length m ≡ RECORD_WORDS → u < 32 → voiceAt (added m channel left right) u ≡ voiceAt m u
   unfolding added
   added-voice u l h =
       let n = addedTo m (SUMS + 2 * channel) left in
@@ -82,7 +94,7 @@ module _ (m : List ℕ) (channel : ℕ) (left right : ℤ) where
       ∙ added-to-voice m (SUMS + 2 * channel) left u l h (omega arith))
       (λ _. refl)
 
-  added-length : length (added m channel left right) ≡ length m
+  pub added-length : length (added m channel left right) ≡ length m
   unfolding added
   added-length =
       let n = addedTo m (SUMS + 2 * channel) left in
@@ -158,6 +170,16 @@ module _ (memory : List ℕ) (v : ℕ) (m : List ℕ) (s : Sound m) (h : v < 32)
   unfolding turnAt put wordsAfter
   turn-word i k l d = signalled-word _ v _ i d ∙ added-word _ _ _ _ i l ∙ put-word i k
 
+  -- the vector: as the flag stands after the address step
+  pub turn-vector : getD (turnAt memory v m) IRQV 0
+      ≡ cond (flagOf IRQ (turnOf memory (getD m SLOW 0) (voiceOf (voiceAt m v)) .voice .cr) && eqb (getD m IRQV 0) NO_INTERRUPT) v (getD m IRQV 0)
+  unfolding turnAt put wordsAfter
+  turn-vector =
+      let t = turnOf memory (getD m SLOW 0) (voiceOf (voiceAt m v)) in
+      let e = added-word put (channelOf (getD (voiceAt m v) 0 0)) (t .left) (t .right) IRQV (lit< tt) ∙ put-word IRQV (lit≤ tt) in
+      signalled-vector _ v _ (added-length _ _ _ _ ∙ put-size)
+      ∙ ap (λ (x : ℕ). cond (flagOf IRQ (t .voice .cr) && eqb x NO_INTERRUPT) v x) e
+
   pub turn-sum : (i : ℕ) → i < 12 → getD (turnAt memory v m) (SUMS + i) 0 ≡ (getD m (SUMS + i) 0 + share memory (getD m SLOW 0) (voiceAt m v) i) % 8388608
   unfolding turnAt put wordsAfter share
   turn-sum i k =
@@ -177,13 +199,66 @@ module _ (memory : List ℕ) (v : ℕ) (m : List ℕ) (s : Sound m) (h : v < 32)
   unfolding put
   turn-other u k d = turn-voice u k ∙ put-other m v (wordsAfter memory (getD m SLOW 0) (voiceAt m v)) long fits u (omega (arith, s .size)) d
 
--- ---- the turns
+-- ---- the turns of voices 0 to k - 1
 
-pub turns-slow : (memory : List ℕ) (n : ℕ) {m : List ℕ} → Sound m → n ≤ 32 → getD (turns memory n m) SLOW 0 ≡ getD m SLOW 0
-unfolding turns
-turns-slow memory zero s h = refl
-turns-slow memory (suc n) {m} s h =
-    turn-word memory n (turns memory n m) (sound-turns memory n s (omega arith)) h SLOW (lit≤ tt) (lit< tt) (λ e. omega arith) ∙ turns-slow memory n s (omega arith)
+-- what the voices below k add to sum i
+unfoldable pub shares : List ℕ → List ℕ → ℕ → ℕ → ℕ
+shares memory m k i = sum k (λ v. share memory (getD m SLOW 0) (voiceAt m v) i)
+
+-- m′ is m after them
+pub record Turned (memory : List ℕ) (k : ℕ) (m m′ : List ℕ) : Type 0 where
+  pub sound : Sound m′
+  pub past : (v : ℕ) → v < 32 → v < k → voiceAt m′ v ≡ wordsAfter memory (getD m SLOW 0) (voiceAt m v)
+  pub ahead : (v : ℕ) → v < 32 → k ≤ v → voiceAt m′ v ≡ voiceAt m v
+  pub words : (i : ℕ) → PAGE ≤ i → i < SUMS → i ≢ IRQV → getD m′ i 0 ≡ getD m i 0
+  pub sums : (i : ℕ) → i < 12 → getD m′ (SUMS + i) 0 ≡ (getD m (SUMS + i) 0 + shares memory m k i) % 8388608
+
+pub slow-stays : {memory m m′ : List ℕ} {k : ℕ} → Turned memory k m m′ → getD m′ SLOW 0 ≡ getD m SLOW 0
+slow-stays t = t .words SLOW (lit≤ tt) (lit< tt) (λ e. omega arith)
+
+module _ (memory : List ℕ) where
+  no-turn : {m : List ℕ} → Sound m → Turned memory 0 m m
+  unfolding shares sum
+  no-turn {m} s = record {
+    sound = s;
+    past = λ v l k. absurd (not-suc-le-zero k);
+    ahead = λ v l k. refl;
+    words = λ i h l d. refl;
+    sums = λ i h. omega (arith, sum-small m s i h);
+  }
+
+  one-more : {m m′ : List ℕ} (k : ℕ) → k < 32 → Turned memory k m m′ → Turned memory (suc k) m (turnAt memory k m′)
+  unfolding shares sum
+  one-more {m} {m′} k h t = record {
+    sound = sound-turn memory k (t .sound) h;
+    past = λ v l j. past v l j (ℕ-discrete v k);
+    ahead = λ v l j. turn-other memory k m′ (t .sound) h v l (λ e. omega arith) ∙ t .ahead v l (omega arith);
+    words = λ i l j d. turn-word memory k m′ (t .sound) h i l j d ∙ t .words i l j d;
+    sums = λ i j.
+        turn-sum memory k m′ (t .sound) h i j
+        ∙ ap (λ (x : ℕ). (getD m′ (SUMS + i) 0 + x) % 8388608) (own-share i)
+        ∙ ap (λ (x : ℕ). (x + share memory (getD m SLOW 0) (voiceAt m k) i) % 8388608) (t .sums i j)
+        ∙ mod-add-mod (getD m (SUMS + i) 0 + shares memory m k i) 8388608 (share memory (getD m SLOW 0) (voiceAt m k) i)
+        ∙ ap (λ (x : ℕ). x % 8388608) (add-assoc (getD m (SUMS + i) 0) (shares memory m k i) (share memory (getD m SLOW 0) (voiceAt m k) i));
+  }
+    where
+      -- voice k comes to its turn as it was
+      own-share : (i : ℕ) → share memory (getD m′ SLOW 0) (voiceAt m′ k) i ≡ share memory (getD m SLOW 0) (voiceAt m k) i
+      own-share i = rw (slow-stays t, t .ahead k h (omega arith))
+
+      past : (v : ℕ) → v < 32 → v < suc k → Dec (v ≡ k) → voiceAt (turnAt memory k m′) v ≡ wordsAfter memory (getD m SLOW 0) (voiceAt m v)
+      past v l j (yes e) = rw e (turn-same memory k m′ (t .sound) h ∙ rw (slow-stays t, t .ahead k h (omega arith)))
+      past v l j (no e) = turn-other memory k m′ (t .sound) h v l e ∙ t .past v l (omega arith)
+
+  pub turned : {m : List ℕ} (k : ℕ) → k ≤ 32 → Sound m → Turned memory k m (turns memory k m)
+  unfolding turns
+  turned zero h s = no-turn s
+  turned (suc k) h s = one-more k h (turned k (omega arith) s)
+
+  -- all turns of a frame
+  pub all-turned : {m : List ℕ} → Sound m → Turned memory (suc (getD m ACTV 0)) m (played memory m)
+  unfolding played
+  all-turned {m} s = rw add-one (turned (suc (getD m ACTV 0)) (omega (arith, active-le m s)) s)
 
 -- ---- the closing
 
@@ -191,16 +266,16 @@ module _ (m : List ℕ) (s : Sound m) where
   low-length : length (take SUMS m) ≡ SUMS
   low-length = length-take-le SUMS m (omega (arith, s .size))
 
-  silenced-length : length (silenced m) ≡ RECORD_WORDS
+  pub silenced-length : length (silenced m) ≡ RECORD_WORDS
   unfolding silenced
   silenced-length = simp (length-append, low-length, length-drop) (omega (arith, s .size))
 
-  silenced-word : (i : ℕ) → i < SUMS → getD (silenced m) i 0 ≡ getD m i 0
+  pub silenced-word : (i : ℕ) → i < SUMS → getD (silenced m) i 0 ≡ getD m i 0
   unfolding silenced
   silenced-word i h =
       List·getD-append (take SUMS m) (replicate 12 0 ++ drop 12 (drop SUMS m)) 0 i (omega (arith, low-length)) ∙ getD-take SUMS m i 0 h
 
-  silenced-sum : (i : ℕ) → i < 12 → getD (silenced m) (SUMS + i) 0 ≡ 0
+  pub silenced-sum : (i : ℕ) → i < 12 → getD (silenced m) (SUMS + i) 0 ≡ 0
   unfolding silenced
   silenced-sum i h =
       ap (λ (n : ℕ). getD (silenced m) (n + i) 0) (sym low-length)
@@ -245,6 +320,10 @@ module _ (m : List ℕ) (s : Sound m) where
   sound-closed =
       sound-set SLOW next silenced-sound (omega arith)
       (and-mask next 3 ∙ mod-eq-of-lt (omega arith)) (λ e. absurd (let y : ⊥ = omega arith in y))
+
+-- a word that neither they nor the closing touch
+pub closed-stays : {memory m m′ : List ℕ} {k : ℕ} → Turned memory k m m′ → (i : ℕ) → PAGE ≤ i → i < SUMS → i ≢ IRQV → i ≢ SLOW → getD (closed m′) i 0 ≡ getD m i 0
+closed-stays {m′ = m′} t i h l d e = closed-word m′ (t .sound) i l e ∙ t .words i h l d
 
 -- ---- the output
 

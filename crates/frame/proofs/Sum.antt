@@ -9,7 +9,6 @@ use native.Mathlib.Omega.{arith}
 use lib.Dec.{eqb}
 use borrow.Author.Tests.{eqb-true, eqb-false, ne-eqb}
 use Rattle.numbers.proofs.Tests.{split, cases}
-use Rattle.renumber.specs.Demand.{Into, OneToOne}
 
 -- ---- sums
 
@@ -80,19 +79,12 @@ unfolding hits sum
 never zero s u h = refl
 never (suc j) s u h = omega (arith, never j s u (λ v l. h v (omega arith)), missed u (s j) (h j (omega arith)))
 
-at-most-once : (k : ℕ) (s : ℕ → ℕ) → OneToOne k s → (u j : ℕ) → j ≤ k → hits j s u ≤ 1
-unfolding hits sum
-at-most-once k s inj u zero h = omega arith
-at-most-once k s inj u (suc j) h = hit-cases u (s j) _
-    (λ e i. omega (arith, i, never j s u (λ v l q. let d : v ≡ j = inj v j (omega arith) (omega arith) (sym q ∙ e) in omega arith)))
-    (λ e i. omega (arith, i, at-most-once k s inj u j (omega arith)))
-
+-- k numbers, each at most 1, whose sum is k: each is 1
 sum-below : (k : ℕ) (c : ℕ → ℕ) → ((u : ℕ) → u < k → c u ≤ 1) → sum k c ≤ k
 unfolding sum
 sum-below zero c h = omega arith
 sum-below (suc k) c h = omega (arith, sum-below k c (λ u l. h u (omega arith)), h k (omega arith))
 
--- k numbers, each at most 1, whose sum is k: each is 1
 all-one : (k : ℕ) (c : ℕ → ℕ) → ((u : ℕ) → u < k → c u ≤ 1) → sum k c ≡ k → (u : ℕ) → u < k → c u ≡ 1
 unfolding sum
 all-one zero c h e u l = absurd (not-suc-le-zero l)
@@ -100,38 +92,38 @@ all-one (suc k) c h e u l = hit-cases u k _
     (λ q i. omega (arith, sum-below k c (λ v m. h v (omega arith)), h k (omega arith), ap c q))
     (λ q i. all-one k c (λ v m. h v (omega arith)) (omega (arith, sum-below k c (λ v m. h v (omega arith)), h k (omega arith))) u (omega arith))
 
-total : (k : ℕ) (s : ℕ → ℕ) → Into k s → sum k (hits k s) ≡ k
-unfolding hits
-total k s into =
-    sym (sum-swap k k (λ v u. hit u (s v)))
-    ∙ sum-ext k (λ v. sum k (λ u. hit u (s v))) (λ v. 1) (λ v l. simp mul-one at (sum-hit k (s v) (λ u. 1) (into v l)))
-    ∙ sum-of k 1 ∙ mul-one k
+-- ---- the law: s maps the numbers below k to such numbers, and no two of them to one
 
--- a one-to-one map of the numbers below k to such numbers hits each of them
-onto : (k : ℕ) (s : ℕ → ℕ) → Into k s → OneToOne k s → (u : ℕ) → u < k → hits k s u ≡ 1
-onto k s into inj = all-one k (hits k s) (λ u l. at-most-once k s inj u k (le-refl k)) (total k s into)
+module _ (k : ℕ) (s : ℕ → ℕ) (into : (v : ℕ) → v < k → s v < k) (one-to-one : (v u : ℕ) → v < k → u < k → s v ≡ s u → v ≡ u) where
+  at-most-once : (u j : ℕ) → j ≤ k → hits j s u ≤ 1
+  unfolding hits sum
+  at-most-once u zero h = omega arith
+  at-most-once u (suc j) h = hit-cases u (s j) _
+      (λ e i. omega (arith, i, never j s u (λ v l q. let d : v ≡ j = one-to-one v j (omega arith) (omega arith) (sym q ∙ e) in omega arith)))
+      (λ e i. omega (arith, i, at-most-once u j (omega arith)))
 
--- ---- the law
+  total : sum k (hits k s) ≡ k
+  unfolding hits
+  total =
+      sym (sum-swap k k (λ v u. hit u (s v)))
+      ∙ sum-ext k (λ v. sum k (λ u. hit u (s v))) (λ v. 1) (λ v l. simp mul-one at (sum-hit k (s v) (λ u. 1) (into v l)))
+      ∙ sum-of k 1 ∙ mul-one k
 
--- a renumbering leaves a sum as it was
-pub sum-renumbered : (k : ℕ) (s : ℕ → ℕ) → Into k s → OneToOne k s → (g : ℕ → ℕ) → sum k (λ v. g (s v)) ≡ sum k g
-unfolding hits
-sum-renumbered k s into inj g =
-    sym (sum-ext k (λ v. sum k (λ u. hit u (s v) * g u)) (λ v. g (s v)) (λ v l. sum-hit k (s v) g (into v l)))
-    ∙ sum-swap k k (λ v u. hit u (s v) * g u)
-    ∙ sum-ext k (λ u. sum k (λ v. hit u (s v) * g u)) g
-    (λ u l. sum-mul k (λ v. hit u (s v)) (g u) ∙ ap (λ (n : ℕ). n * g u) (onto k s into inj u l) ∙ one-mul (g u))
+  -- so it hits each of them
+  onto : (u : ℕ) → u < k → hits k s u ≡ 1
+  onto = all-one k (hits k s) (λ u l. at-most-once u k (le-refl k)) total
 
-pub one-to-one-below : (n k : ℕ) (s : ℕ → ℕ) → k ≤ n → OneToOne n s → OneToOne k s
-one-to-one-below n k s h inj v w hv hw e = inj v w (omega arith) (omega arith) e
+  -- a renumbering leaves a sum as it was
+  pub sum-renumbered : (g : ℕ → ℕ) → sum k (λ v. g (s v)) ≡ sum k g
+  unfolding hits
+  sum-renumbered g =
+      sym (sum-ext k (λ v. sum k (λ u. hit u (s v) * g u)) (λ v. g (s v)) (λ v l. sum-hit k (s v) g (into v l)))
+      ∙ sum-swap k k (λ v u. hit u (s v) * g u)
+      ∙ sum-ext k (λ u. sum k (λ v. hit u (s v) * g u)) g
+      (λ u l. sum-mul k (λ v. hit u (s v)) (g u) ∙ ap (λ (n : ℕ). n * g u) (onto u l) ∙ one-mul (g u))
 
--- what maps the numbers below k to such numbers, one-to-one, maps no other there
-pub stays-out : (n k : ℕ) (s : ℕ → ℕ) → k ≤ n → OneToOne n s → Into k s → (v : ℕ) → v < n → k ≤ v → k ≤ s v
-stays-out n k s h inj into v hv hk = cases (s v) k (k ≤ s v)
-    (λ l.
-    omega (
-      arith,
-      onto k s into (one-to-one-below n k s h inj) (s v) l,
-      never k s (s v) (λ w l q. let d : v ≡ w = inj v w hv (omega arith) q in omega arith),
-    ))
-    (λ l. l)
+  -- and a number that none of them is one-to-one with goes to none of them
+  pub stays-out : (v : ℕ) → ((u : ℕ) → u < k → s v ≡ s u → ⊥) → k ≤ s v
+  stays-out v other = cases (s v) k (k ≤ s v)
+      (λ l. omega (arith, onto (s v) l, never k s (s v) (λ u h q. other u h q)))
+      (λ l. l)
