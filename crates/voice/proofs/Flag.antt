@@ -1,13 +1,16 @@
--- A turn carries the interrupt flag and does not heed it: two voices that hold the same registers, interrupt flags excepted, add the same
--- to their channel, which is the same, and hold the same registers after it, interrupt flags excepted.
--- In order: such voices; what the turn reads of them; the turn. Assumes nothing.
-use mathlib.Core.Path.{_≡_, refl, ap, _∙_}
+-- The interrupt flag and a turn.
+-- In order: two voices that hold the same registers, interrupt flags excepted (`ButFlag`); what the turn reads of them; a turn does not heed
+-- the flag (`same-turn`: they add the same to their channel, which is the same, and are such voices after it); the flag after a turn
+-- (`turn-flag`: as it was, or on where the turn raises it). The flag after the address step alone is `address/proofs/Loops`; what the frame
+-- does with it is `frame/proofs/Leaves`. Assumes nothing.
+use mathlib.Core.Path.{_≡_, refl, sym, ap, _∙_}
+use mathlib.Core.Bool.{_||_, or-false}
 use mathlib.Core.List.{List}
 use Prim.Native.Nat.{ℕ}
 use native.Mathlib.Omega.{arith}
 use lib.IntN.{ℤ, pos}
-use Rattle.numbers.proofs.Tests.{alongside}
-use Rattle.control.specs.Control.{LP3, LP4, CMPD, IRQ}
+use Rattle.numbers.proofs.Tests.{split, alongside}
+use Rattle.control.specs.Control.{flagOf, runs, LP3, LP4, CMPD, IRQ}
 use Rattle.control.proofs.Agree.{AgreeBut, flag-agrees, bank-agrees, runs-agrees}
 use Rattle.sample.specs.Sample.{fetched, fraction, interpolated}
 use Rattle.sample.specs.declared.Samples.{Samples}
@@ -17,8 +20,11 @@ use Rattle.filter.proofs.Laws.{filtered-passes}
 use Rattle.volume.specs.Volume.{panned}
 use Rattle.address.specs.Address.{stepped}
 use Rattle.address.proofs.Agree.{SamePlace, stepped-agrees}
+use Rattle.address.proofs.Loops.{stepped-flag}
 use Rattle.voice.specs.Voice.{Voice, Turn}
 use Rattle.voice.specs.Turn.{lastOutputs, rampedLevels, withOutputs, moved, sampled, stoppedTurn, runningTurn, turnOf}
+use Rattle.voice.specs.Raises.{raises}
+use Rattle.voice.proofs.Laws.{turn-runs, turn-stands}
 
 -- ---- voices that differ in the interrupt flag alone
 
@@ -112,3 +118,11 @@ module _ (v w : Voice) (h : ButFlag v w) where
   pub same-turn : (memory : List ℕ) (slow : ℕ) → SameTurn (turnOf memory slow v) (turnOf memory slow w)
   unfolding turnOf
   same-turn memory slow = alongside SameTurn (runs-agrees (v .cr) (w .cr) (h .cr)) (running-same memory slow) stopped-same
+
+-- ---- the flag after a turn
+
+pub turn-flag : (memory : List ℕ) (slow : ℕ) (v : Voice) → flagOf IRQ (turnOf memory slow v .voice .cr) ≡ (flagOf IRQ (v .cr) || raises v)
+unfolding withOutputs moved stoppedTurn runningTurn raises
+turn-flag memory slow v = split _ (runs (v .cr))
+    (λ t. rw (turn-runs memory slow v t, t) (stepped-flag (v .cr) (v .fc) (v .start) (v .end) (v .accum)))
+    (λ t. rw (turn-stands memory slow v t, t) (sym (or-false (flagOf IRQ (v .cr)))))

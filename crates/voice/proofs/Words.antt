@@ -1,6 +1,7 @@
 -- Twenty words and the voice that they are, and the stores of the code's functions by the voice that they leave.
--- In order: the words of a voice are the words; the address step's stores; the ramps'; the filters'; the parts of a turn one after
--- another. Assumes nothing.
+-- In order: twenty words are the words of their voice (`words-voice`); the address step's stores (`accum-stored`, `place-stored`); the ramps'
+-- (`levels-stored`, `levels-left`); the filters' (`back-…`, `outputs-stored`); the parts of a turn one after another (`filters-…`, `step-…`,
+-- `parts-run`, `parts-stand`). What a turn leaves of the registers themselves is Keeps. Assumes nothing.
 use mathlib.Core.Path.{_≡_, refl, sym, ap, subst, _∙_}
 use mathlib.Core.List.{List}
 use Prim.Native.Nat.{ℕ}
@@ -17,6 +18,8 @@ use Rattle.voice.specs.Turn.{passing, levelsOf, lastOutputs, rampedLevel
 use Rattle.voice.specs.Ranges.{Ranges}
 use Rattle.voice.specs.Takes.{placeOf, afterFilters, afterStep, afterRamps}
 
+-- ---- twenty words are the words of their voice
+
 pub words-voice : (w : List ℕ) → length w ≡ 20 → wordsOf (voiceOf w) ≡ w
 unfolding wordsOf
 words-voice w h = ext-getD 0 (listed (λ i. getD w i 0) 0 20) w (sym h) (λ k l. listed-at (λ i. getD w i 0) 0 20 k 0 l ∙ ap (λ (i : ℕ). getD w i 0) (zero-add k))
@@ -24,6 +27,8 @@ words-voice w h = ext-getD 0 (listed (λ i. getD w i 0) 0 20) w (sym h) (λ k l.
 -- what holds of a voice's words holds of twenty words
 as-voice : (w : List ℕ) → length w ≡ 20 → (P : List ℕ → Type 0) → P (wordsOf (voiceOf w)) → P w
 as-voice w h P = subst P (words-voice w h)
+
+-- ---- the address step and the ramps
 
 module _ (w : List ℕ) (h : length w ≡ 20) where
   -- a new ACCUM; and with it a new control register

@@ -3,3 +3,4 @@ pub mod Turn
 pub mod Ranges
 pub mod Tune
 pub mod Takes
+pub mod Raises
