@@ -1,5 +1,6 @@
 -- What a valid record has, and what is enough for one; the check's way of going about it finds the same; what keeps a record valid.
--- In order: tests of all words; validity by its parts, `Sound`; the check's test is validity; a store and a put voice keep it.
+-- In order: tests of all words; validity by its parts, `Sound`; the check's test is validity; words that are cut (`cut-again`, `cut-voice`);
+-- a store and a put voice keep it.
 -- Assumes nothing.
 use mathlib.Core.Path.{_≡_, refl, sym, ap, ap₂, subst, _∙_}
 use mathlib.Core.Bool.{Bool, true, false, _&&_, false≢true}
@@ -14,7 +15,7 @@ use lib.ListN.{length, getD, set, length-set}
 use lib.Seq.{getD-set-same, getD-set-other}
 use borrow.Author.Tests.{eq-eqb, eqb-true, lt-ltb}
 use Rattle.numbers.proofs.Tests.{cases, all-at}
-use Rattle.machine.specs.Words.{RECORD_WORDS, PAGE, IRQV, SUMS, voiceBits, sharedBits, bitsOf, cut, cutTo, isVector, valid}
+use Rattle.machine.specs.Words.{RECORD_WORDS, PAGE, IRQV, SUMS, voiceWord, voiceBits, sharedBits, bitsOf, cut, cutTo, isVector, valid}
 use Rattle.machine.specs.Voices.{voiceAt, putVoice}
 use Rattle.machine.specs.Kept.{among, keptAt, gathered, gatheredKept, sumsKept, threeKept, sharedKept}
 use Rattle.machine.proofs.Kept.{and-again, or-kept}
@@ -187,6 +188,13 @@ module _ (m : List ℕ) where
 pub cut-again : (i x : ℕ) → cut i (cut i x) ≡ cut i x
 unfolding cut
 cut-again i x = and-again x (bitsOf i)
+
+-- word j of any voice keeps the same bits
+pub cut-voice : (v j x : ℕ) → v < 32 → j < 20 → cut (voiceWord v j) x ≡ cut j x
+unfolding cut
+cut-voice v j x h k =
+    let e : 20 * 0 + j ≡ j = omega arith in
+    ap (bitAnd x) (bits-voice v j h k ∙ sym (rw e at (bits-voice 0 j (omega arith) k)))
 
 -- a store of a word that is cut already; of the vector, of one that is a vector
 pub sound-set : {m : List ℕ} (i x : ℕ) → Sound m → i < RECORD_WORDS → cut i x ≡ x → (i ≡ IRQV → isVector x ≡ true) → Sound (set m i x)

@@ -35,6 +35,9 @@ bits-lt i h = ltb→lt (bitsOf i) (2 ^ 32) (all-at (λ j. ltb (bitsOf j) (2 ^ 32
 pub word-lt : (m : List ℕ) → Sound m → (i : ℕ) → i < RECORD_WORDS → getD m i 0 < 2 ^ 32
 word-lt m s i h = omega (arith, word-le m s i h, bits-lt i h)
 
+pub latch-lt : {m : List ℕ} → Sound m → getD m WRITE_LATCH 0 < 2 ^ 32
+latch-lt {m} s = word-lt m s WRITE_LATCH (omega arith)
+
 -- CR of a voice is a word of 16 bits
 cr-bits : (v : ℕ) → v < 32 → bitsOf (voiceWord v CR) ≡ 2 ^ 16 - 1
 cr-bits v h = bits-voice v 0 h (omega arith)
@@ -87,7 +90,7 @@ write-sound m r k b s h d e =
     let latch = withByte k b (getD m WRITE_LATCH 0) in
     either Sound (eqb k 3) _ _
     (λ _. write-latch 0 (stored-sound m (registerOf (getD m PAGE 0) r) latch s (inside (getD m PAGE 0) r h)) (omega arith))
-    (λ _. write-latch latch s (byte-lt k b (getD m WRITE_LATCH 0) d e (word-lt m s WRITE_LATCH (omega arith))))
+    (λ _. write-latch latch s (byte-lt k b (getD m WRITE_LATCH 0) d e (latch-lt s)))
 
 -- ---- reading
 

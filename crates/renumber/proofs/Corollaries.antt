@@ -1,34 +1,36 @@
 -- What follows for a plain host, whose calls are those of a score: played on other voices the score sounds the same, and so it does when two
 -- voices are written in the other order.
--- In order: a trace's parts put together; the calls of a write; a score is a trace; scores that are alike; the two corollaries.
--- Assumes nothing.
+-- In order: a trace's parts put together; the calls of writes; a score is a trace; scores that are alike; the two corollaries. The record
+-- that the calls of one write leave is `calls/proofs/Writes`. Assumes nothing.
 use mathlib.Core.Path.{_≡_, refl, sym, ap, subst, _∙_}
 use mathlib.Core.Logic.{_≢_}
-use mathlib.Core.Bool.{true, cond}
+use mathlib.Core.Bool.{true}
 use mathlib.Core.List.{List, [], _∷_, _++_, map}
-use Prim.Native.Nat.{ℕ, _+_, _-_, _*_, _/_, _%_, _^_, _<_, _≤_}
+use Prim.Native.Nat.{ℕ, _+_, _*_, _≤_}
 use native.Mathlib.Decide.{ℕ-discrete}
 use native.Mathlib.Omega.{arith}
-use lib.Bits.{and-mask}
-use lib.Dec.{ltb, lit<}
+use lib.Dec.{lit<}
 use lib.IntN.{ℤ, pos}
-use lib.ListN.{length, getD, set, replicate}
-use lib.Seq.{getD-set-same, getD-set-other}
-use borrow.Author.Tests.{eq-eqb, ne-eqb, lt-ltb, le-ltb}
-use Rattle.numbers.proofs.Tests.{cases}
-use Rattle.machine.specs.Words.{START, O4N1, PAGE, WRITE_LATCH, ACTV, voiceWord, sharedBits, bitsOf, cut, valid}
+use lib.ListN.{length, getD, replicate}
+use borrow.Author.Tests.{eq-eqb, ne-eqb}
+use Rattle.machine.specs.Words.{PAGE, ACTV, voiceWord, valid}
 use Rattle.machine.proofs.Valid.{Sound, sound}
 use Rattle.sample.specs.Sample.{MOST_MEMORY_WORDS}
-use Rattle.registers.specs.Registers.{registerOf, lowPage, highPage, byteOf, withByte}
+use Rattle.registers.specs.Registers.{registerOf, byteOf}
 use Rattle.registers.specs.declared.Register.the-variants.{Word}
+use Rattle.registers.specs.Access.{writeRecord}
+use Rattle.registers.specs.Place.{pageFor, registerFor}
+use Rattle.registers.proofs.Named.{page-lt, register-lt, named}
+use Rattle.registers.proofs.Writing.{byte-small, four-bytes, page-after}
 use Rattle.frame.proofs.Answered.{not-refused-frame}
-use Rattle.calls.specs.Calls.{Call, Write, Frame, answerTo, after, run, outputs}
+use Rattle.calls.specs.Calls.{Call, Frame, answerTo, after, run, outputs}
+use Rattle.calls.specs.Writes.{writeCalls}
+use Rattle.calls.proofs.Runs.{frame-sound}
 use Rattle.renumber.specs.Demand.{Renumbering, Match, Put, ofVoice, Phase, idle, Between, nothing, reading, potting, refused, paging, first, next, last}
 use Rattle.renumber.specs.Demand.{Log, End, Then, Trace, stop, go-on, SameWrites, Alike}
-use Rattle.renumber.specs.Score.{pageFor, registerFor, writes, allWrites, Step, callsOf, putOn, stepOn, Fits, AllFit, Playable}
+use Rattle.renumber.specs.Score.{writes, allWrites, Step, callsOf, putOn, stepOn, Fits, AllFit, Playable}
 use Rattle.renumber.proofs.Same.{same-equal}
-use Rattle.renumber.proofs.Stretch.{In, stretch, between, last-written, page-named}
-use Rattle.calls.proofs.Runs.{frame-sound}
+use Rattle.renumber.proofs.Stretch.{In, stretch, between}
 use Rattle.renumber.proofs.Theorem.{over-frame, inaudible}
 
 -- ---- parts put together
@@ -57,73 +59,10 @@ one-frame-more {m} {ψ = ψ} {t = t} memory out h k s i d f =
     let a = not-refused-frame (run m t) memory out s₁ h k in
     go-on memory out d a (f (frame-sound (run m t) memory out a s₁) (over-frame ψ memory out a s₁ (r .phase)))
 
--- ---- the calls of a write
-
-byte-lt : (k x : ℕ) → byteOf k x < 256
-unfolding byteOf
-byte-lt k x = omega arith
-
--- four bytes make their number
-one-byte : (x : ℕ) → 256 * (x / 256) + x % 256 ≡ x
-one-byte x = omega arith
-
-four-bytes : (x : ℕ) → x < 2 ^ 32 → 256 * (256 * (256 * byteOf 0 x + byteOf 1 x) + byteOf 2 x) + byteOf 3 x ≡ x
-unfolding byteOf
-four-bytes x h =
-    let a : byteOf 0 x ≡ x / 256 / 256 / 256 = omega arith in
-    let b : byteOf 1 x ≡ x / 256 / 256 % 256 = omega arith in
-    let c : byteOf 3 x ≡ x % 256 = omega arith in
-    rw (a, b, c, one-byte (x / 256 / 256), one-byte (x / 256)) (one-byte x)
-
-page-lt : (v j : ℕ) → v < 32 → pageFor v j < 64
-unfolding pageFor
-page-lt v j h = cases j START (cond (ltb j START) v (32 + v) < 64) (λ l. rw (lt-ltb j START l) (omega arith)) (λ l. rw (le-ltb j START l) (omega arith))
-
-register-lt : (j : ℕ) → j < 20 → registerFor j < 16
-unfolding registerFor
-register-lt j h = cases j START (cond (ltb j START) j (1 + (j - START)) < 16) (λ l. rw (lt-ltb j START l) (omega arith)) (λ l. rw (le-ltb j START l) (omega arith))
-
--- that page and register name that word: one up to K1RAMP; START, END or ACCUM; a filter word
-named : (v j : ℕ) → v < 32 → j < 20 → registerOf (pageFor v j) (registerFor j) ≡ Word (voiceWord v j)
-unfolding pageFor registerFor registerOf lowPage highPage
-named v j h k = cases j START _
-    (λ l.
-    rw (
-      lt-ltb j START l,
-      ne-eqb j 13 (λ e. omega arith),
-      ne-eqb j 14 (λ e. omega arith),
-      ne-eqb j 15 (λ e. omega arith),
-      lt-ltb v 32 h,
-      lt-ltb j 11 l,
-    ))
-    (λ l.
-    let r = 1 + (j - START) in
-    let f : 32 + v - 32 ≡ v = omega arith in
-    rw (
-      le-ltb j START l,
-      ne-eqb r 13 (λ e. omega arith),
-      ne-eqb r 14 (λ e. omega arith),
-      ne-eqb r 15 (λ e. omega arith),
-      le-ltb (32 + v) 32 (omega arith),
-      lt-ltb (32 + v) 64 (omega arith),
-      ne-eqb r 0 (λ e. omega arith),
-      f,
-    )
-    (cases j O4N1 _
-    (λ a. let e : START + (r - 1) ≡ j = omega arith in rw (lt-ltb r 4 (omega arith), e))
-    (λ a. let e : O4N1 + (r - 4) ≡ j = omega arith in rw (le-ltb r 4 (omega arith), lt-ltb r 10 (omega arith), e))))
-
--- PAGE after its lowest byte was written
-page-after : {m : List ℕ} (b : ℕ) → Sound m → b < 128 → getD (after m (Write (4 * 15 + 3) b)) PAGE 0 ≡ b
-unfolding cut bitsOf sharedBits withByte
-page-after {m} b s h =
-    let x = withByte 3 b (getD m WRITE_LATCH 0) in
-    let z = cut PAGE x in
-    rw (last-written 15 b PAGE s (lit< tt) (page-named (getD m PAGE 0)))
-    (getD-set-other (set m PAGE z) WRITE_LATCH PAGE 0 0 (λ e. omega arith) ∙ getD-set-same m PAGE z 0 (omega (arith, s .size)) ∙ and-mask x 7 ∙ omega arith)
+-- ---- the calls of writes
 
 pub one-write : {m : List ℕ} (p : Put) → Sound m → Fits p → Between m idle (writes p) (p ∷ []) idle
-unfolding writes
+unfolding after writes writeCalls
 one-write {m} p s f =
     let v = p .voice in
     let j = p .word in
@@ -131,15 +70,15 @@ one-write {m} p s f =
     let hv = f .voice in
     let hj = f .word in
     let hp = page-lt v j hv in
-    let e : registerOf (getD (after m (Write (4 * 15 + 3) (pageFor v j))) PAGE 0) (registerFor j) ≡ Word (voiceWord v j) = rw (page-after (pageFor v j) s (omega arith)) (named v j hv hj) in
+    let e : registerOf (getD (writeRecord m (4 * 15 + 3) (pageFor v j)) PAGE 0) (registerFor j) ≡ Word (voiceWord v j) = rw (page-after (pageFor v j) s (omega arith)) (named v j hv hj) in
     let q : _≡_ {A = Put} (record { voice = v; word = j; number = 256 * (256 * (256 * byteOf 0 x + byteOf 1 x) + byteOf 2 x) + byteOf 3 x }) p =
     λ i. record { voice = v; word = j; number = four-bytes x (f .number) i } in
     subst (λ (y : Put). Between m idle (writes p) (y ∷ []) idle) q
     (paging 3 (pageFor v j) (lit< tt) (omega arith)
-    (first (registerFor j) v j (byteOf 0 x) (register-lt j hj) hv hj (byte-lt 0 x) e
-    (next {k = 1} (byteOf 1 x) (lit< tt) (byte-lt 1 x)
-    (next {k = 2} (byteOf 2 x) (lit< tt) (byte-lt 2 x)
-    (last (byteOf 3 x) (byte-lt 3 x) nothing)))))
+    (first (registerFor j) v j (byteOf 0 x) (register-lt j hj) hv hj (byte-small 0 x) e
+    (next {k = 1} (byteOf 1 x) (lit< tt) (byte-small 1 x)
+    (next {k = 2} (byteOf 2 x) (lit< tt) (byte-small 2 x)
+    (last (byteOf 3 x) (byte-small 3 x) nothing)))))
 
 all-writes : {m : List ℕ} (ps : List Put) → Sound m → AllFit ps → Between m idle (allWrites ps) ps idle
 unfolding allWrites

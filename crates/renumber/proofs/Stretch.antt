@@ -1,32 +1,34 @@
 -- The calls between two frames, on one machine: each voice gets its own writes, in their order, and nothing else changes that a match speaks
 -- of; and the latch has the bytes of a write that is begun.
 -- In order: a voice after its writes; `Moved`, a machine after some writes; a word that no match speaks of; a write of a voice; reads, pot
--- results and refused writes; the write latch, byte by byte; the calls. Assumes nothing.
+-- results and refused writes; bytes of a write; the calls. What a byte written or read leaves of any record is `registers/proofs/Writing` and
+-- `Reading`. Assumes nothing.
 use mathlib.Core.Path.{_≡_, refl, sym, ap, _∙_}
 use mathlib.Core.Logic.{_≢_}
 use mathlib.Core.Bool.{false}
 use mathlib.Core.List.{List, [], _∷_, _++_}
-use Prim.Native.Nat.{ℕ, zero, suc, _+_, _-_, _*_, _/_, _^_, _≤_, _<_}
+use Prim.Native.Nat.{ℕ, _+_, _*_, _^_, _≤_, _<_}
 use native.Mathlib.Decide.{ℕ-discrete}
 use native.Mathlib.Nat.{zero-add}
 use native.Mathlib.Omega.{arith}
-use lib.Bits.{bitAnd}
 use lib.Dec.{eqb, lit<, lit≤}
 use lib.ListN.{length, getD, set, length-set}
 use lib.Seq.{getD-set-same, getD-set-other}
-use borrow.Author.Tests.{eqb-true, eq-eqb, ne-eqb, le-ltb}
-use Rattle.numbers.proofs.Tests.{either, split, cases}
+use borrow.Author.Tests.{eq-eqb, ne-eqb}
+use Rattle.numbers.proofs.Tests.{split, cases}
 use Rattle.answer.specs.Answer.{isDone}
-use Rattle.machine.specs.Words.{CR, PAGE, IRQV, PAR, ACTV, SLOW, WRITE_LATCH, READ_LATCH, SUMS, voiceWord, cut, isVector, RECORD_WORDS}
+use Rattle.machine.specs.Words.{PAGE, PAR, ACTV, SLOW, WRITE_LATCH, SUMS, voiceWord, cut}
 use Rattle.machine.specs.Voices.{voiceAt}
 use Rattle.machine.proofs.Parts.{voice-word, voice-length, voice-same, voice-set, voice-set-out}
-use Rattle.machine.proofs.Valid.{Sound, sound, is-valid, bits-voice, cut-again, sound-set}
-use Rattle.registers.specs.Registers.{registerOf, withByte, stored, writtenTo}
+use Rattle.machine.proofs.Valid.{Sound, sound, is-valid, cut-again, cut-voice, sound-set}
+use Rattle.registers.specs.Registers.{registerOf, withByte}
 use Rattle.registers.specs.declared.Register.the-variants.{Word}
-use Rattle.registers.specs.Access.{readRecord, potAnswer, potRecord}
-use Rattle.registers.proofs.Valid.{word-lt, write-latch, byte-lt}
-use Rattle.registers.proofs.Whole.{write-byte}
-use Rattle.registers.proofs.Corollaries.{read-valid, pot-valid, write-refused, read-keeps, read-flag}
+use Rattle.registers.specs.Access.{writeRecord, readRecord, potRecord}
+use Rattle.registers.proofs.Named.{page-named}
+use Rattle.registers.proofs.Valid.{latch-lt, write-latch, byte-lt}
+use Rattle.registers.proofs.Writing.{topOf, top-none, top-next, top-last, byte-written, last-written}
+use Rattle.registers.proofs.Reading.{read-keeps, read-shared, read-flag}
+use Rattle.registers.proofs.Corollaries.{read-valid, pot-valid, write-refused, pot-keeps}
 use Rattle.calls.specs.Calls.{Call, Write, Read, SetPot, answerTo, after, run}
 use Rattle.renumber.specs.Demand.{SameVoice, Put, ofVoice, Phase, idle, begun, Between, nothing, reading, potting, refused, paging, first, next, last}
 use Rattle.renumber.proofs.Same.{same-equal, same-then, same-set}
@@ -111,13 +113,6 @@ latch-moved {m} x s h = quiet WRITE_LATCH (lit≤ tt, lit< tt, λ e. omega arith
 
 -- ---- a write of a voice
 
--- word j of any voice keeps the same bits
-cut-voice : (v j x : ℕ) → v < 32 → j < 20 → cut (voiceWord v j) x ≡ cut j x
-unfolding cut
-cut-voice v j x h k =
-    let e : 20 * 0 + j ≡ j = omega arith in
-    ap (bitAnd x) (bits-voice v j h k ∙ sym (rw e at (bits-voice 0 j (lit< tt) k)))
-
 put-moved : {m : List ℕ} (v j x : ℕ) → Sound m → v < 32 → j < 20 → Moved m (record { voice = v; word = j; number = x } ∷ []) (set m (voiceWord v j) (cut (voiceWord v j) x))
 unfolding puts
 put-moved {m} v j x s hv hj =
@@ -146,13 +141,6 @@ record Quiet (m m′ : List ℕ) : Type 0 where
   moved : Moved m [] m′
   kept : Kept m m′
 
--- the control register that the vector names is none of the shared words
-vector-below : {m : List ℕ} (i : ℕ) → Sound m → PAGE ≤ i → i < RECORD_WORDS → i ≢ voiceWord (getD m IRQV 0) CR
-unfolding isVector
-vector-below {m} i s h k e = cases (getD m IRQV 0) 32 ⊥
-    (λ l. omega arith)
-    (λ l. let q = eqb-true (getD m IRQV 0) 128 (rw (le-ltb (getD m IRQV 0) 32 l) at (s .vector)) in omega arith)
-
 read-quiet : {m : List ℕ} (a : ℕ) → Sound m → Quiet m (after m (Read a))
 unfolding after puts
 read-quiet {m} a s = record {
@@ -166,22 +154,15 @@ read-quiet {m} a s = record {
           ∙ read-keeps m a (voiceWord v j) (λ e. omega arith) (λ e. omega arith) (λ e. omega arith) (λ e. omega arith)
           ∙ sym (voice-word m v j k);
     };
-    active = above ACTV (λ e. omega arith) (λ e. omega arith) (λ e. omega arith) (lit≤ tt) (lit< tt);
-    slow = above SLOW (λ e. omega arith) (λ e. omega arith) (λ e. omega arith) (lit≤ tt) (lit< tt);
-    sums = λ c h. above (SUMS + c) (λ e. omega arith) (λ e. omega arith) (λ e. omega arith) (omega arith) (omega arith);
+    active = read-shared m a ACTV s (lit≤ tt) (lit< tt) (λ e. omega arith) (λ e. omega arith) (λ e. omega arith);
+    slow = read-shared m a SLOW s (lit≤ tt) (lit< tt) (λ e. omega arith) (λ e. omega arith) (λ e. omega arith);
+    sums = λ c h. read-shared m a (SUMS + c) s (omega arith) (omega arith) (λ e. omega arith) (λ e. omega arith) (λ e. omega arith);
   };
   kept = record {
-    page = above PAGE (λ e. omega arith) (λ e. omega arith) (λ e. omega arith) (lit≤ tt) (lit< tt);
-    latch = above WRITE_LATCH (λ e. omega arith) (λ e. omega arith) (λ e. omega arith) (lit≤ tt) (lit< tt);
+    page = read-shared m a PAGE s (lit≤ tt) (lit< tt) (λ e. omega arith) (λ e. omega arith) (λ e. omega arith);
+    latch = read-shared m a WRITE_LATCH s (lit≤ tt) (lit< tt) (λ e. omega arith) (λ e. omega arith) (λ e. omega arith);
   };
 }
-  where
-    above : (i : ℕ) → i ≢ READ_LATCH → i ≢ PAR → i ≢ IRQV → PAGE ≤ i → i < RECORD_WORDS → getD (readRecord m a) i 0 ≡ getD m i 0
-    above i l p q h k = read-keeps m a i l p q (vector-below i s h k)
-
-pot-keeps : (m : List ℕ) (p : ℕ) → AllBut PAR m (potRecord m p)
-unfolding potRecord
-pot-keeps m p k d = either (λ r. getD r k 0 ≡ getD m k 0) (isDone (potAnswer m p)) (set m PAR p) m (λ _. but-set m PAR p k d) (λ _. refl)
 
 pot-quiet : {m : List ℕ} (p : ℕ) → Sound m → Quiet m (after m (SetPot p))
 unfolding after
@@ -200,52 +181,15 @@ refused-quiet : {m : List ℕ} (a b : ℕ) → Sound m → isDone (answerTo m (W
 unfolding after answerTo
 refused-quiet {m} a b s h = rw (write-refused m a b h) (record { moved = no-move s; kept = record { page = refl; latch = refl } })
 
--- ---- the write latch
+-- ---- bytes of a write
 
--- its highest k bytes
-topOf : ℕ → ℕ → ℕ
-topOf k x = x / 2 ^ (32 - 8 * k)
-
-top-next : (k b x : ℕ) → k < 3 → b < 256 → x < 2 ^ 32 → topOf (k + 1) (withByte k b x) ≡ 256 * topOf k x + b
-unfolding topOf withByte
-top-next zero b x h d e = omega arith
-top-next (suc zero) b x h d e = omega arith
-top-next (suc (suc zero)) b x h d e = omega arith
-top-next (suc (suc (suc k))) b x h d e = absurd (let z : ⊥ = omega arith in z)
-
-top-none : (x : ℕ) → x < 2 ^ 32 → topOf 0 x ≡ 0
-unfolding topOf
-top-none x h = omega arith
-
-top-last : (b x : ℕ) → withByte 3 b x ≡ 256 * topOf 3 x + b
-unfolding topOf withByte
-top-last b x = omega arith
-
-latch-lt : {m : List ℕ} → Sound m → getD m WRITE_LATCH 0 < 2 ^ 32
-latch-lt {m} s = word-lt m s WRITE_LATCH (lit< tt)
-
--- bytes 0 to 2 of a register change the latch alone
-byte-written : {m : List ℕ} (r k b : ℕ) → Sound m → r < 16 → k < 3 → after m (Write (4 * r + k) b) ≡ set m WRITE_LATCH (withByte k b (getD m WRITE_LATCH 0))
-unfolding after writtenTo
-byte-written {m} r k b s hr hk = write-byte m r k b s hr (omega arith) ∙ rw (ne-eqb k 3 (λ e. omega arith))
-
-byte-moved : {m : List ℕ} (r k b : ℕ) → Sound m → r < 16 → k < 3 → b < 256 → Moved m [] (after m (Write (4 * r + k) b))
+byte-moved : {m : List ℕ} (r k b : ℕ) → Sound m → r < 16 → k < 3 → b < 256 → Moved m [] (writeRecord m (4 * r + k) b)
 byte-moved {m} r k b s hr hk hb =
     rw (byte-written r k b s hr hk) (latch-moved (withByte k b (getD m WRITE_LATCH 0)) s (byte-lt k b (getD m WRITE_LATCH 0) (omega arith) hb (latch-lt s)))
 
--- byte 3 stores the latch, and clears it
-pub last-written : {m : List ℕ} (r b i : ℕ) → Sound m → r < 16 → registerOf (getD m PAGE 0) r ≡ Word i
-    → after m (Write (4 * r + 3) b) ≡ set (set m i (cut i (withByte 3 b (getD m WRITE_LATCH 0)))) WRITE_LATCH 0
-unfolding after writtenTo stored
-last-written {m} r b i s hr e = write-byte m r 3 b s hr (lit< tt) ∙ rw e
-
 -- any byte of PAGE
-pub page-named : (p : ℕ) → registerOf p 15 ≡ Word PAGE
-unfolding registerOf
-page-named p = refl
-
-page-moved : {m : List ℕ} (k b : ℕ) → Sound m → k < 4 → b < 256 → Moved m [] (after m (Write (4 * 15 + k) b))
-page-moved {m} k b s hk hb = cases k 3 (Moved m [] (after m (Write (4 * 15 + k) b)))
+page-moved : {m : List ℕ} (k b : ℕ) → Sound m → k < 4 → b < 256 → Moved m [] (writeRecord m (4 * 15 + k) b)
+page-moved {m} k b s hk hb = cases k 3 (Moved m [] (writeRecord m (4 * 15 + k) b))
     (λ l. byte-moved 15 k b s (lit< tt) l hb)
     (λ l.
     let x = withByte 3 b (getD m WRITE_LATCH 0) in
@@ -271,7 +215,7 @@ pub in-kept : {m m′ : List ℕ} (φ : Phase) → Kept m m′ → In m φ → I
 in-kept idle q i = tt
 in-kept (begun r v j k x) q i = record { hr = i .hr; hv = i .hv; hj = i .hj; named = rw (q .page) (i .named); top = rw (q .latch) (i .top) }
 
-one-byte-more : {m : List ℕ} (r v j k x b : ℕ) → Sound m → Begun m r v j k x → k < 3 → b < 256 → Begun (after m (Write (4 * r + k) b)) r v j (k + 1) (256 * x + b)
+one-byte-more : {m : List ℕ} (r v j k x b : ℕ) → Sound m → Begun m r v j k x → k < 3 → b < 256 → Begun (writeRecord m (4 * r + k) b) r v j (k + 1) (256 * x + b)
 one-byte-more {m} r v j k x b s i hk hb =
     let y = withByte k b (getD m WRITE_LATCH 0) in
     rw (byte-written r k b s (i .hr) hk)
@@ -283,7 +227,7 @@ one-byte-more {m} r v j k x b s i hk hb =
       top = rw (getD-set-same m WRITE_LATCH y 0 (omega (arith, s .size))) (top-next k b (getD m WRITE_LATCH 0) hk hb (latch-lt s) ∙ ap (λ (n : ℕ). 256 * n + b) (i .top));
     })
 
-last-moved : {m : List ℕ} (r v j x b : ℕ) → Sound m → Begun m r v j 3 x → Moved m (record { voice = v; word = j; number = 256 * x + b } ∷ []) (after m (Write (4 * r + 3) b))
+last-moved : {m : List ℕ} (r v j x b : ℕ) → Sound m → Begun m r v j 3 x → Moved m (record { voice = v; word = j; number = 256 * x + b } ∷ []) (writeRecord m (4 * r + 3) b)
 last-moved {m} r v j x b s i =
     let p = put-moved v j (256 * x + b) s (i .hv) (i .hj) in
     rw (last-written r b (voiceWord v j) s (i .hr) (i .named), top-last b (getD m WRITE_LATCH 0), i .top) (moved-then s p (latch-moved 0 (p .sound) (lit< tt)))
@@ -297,7 +241,7 @@ call-then : {m m₁ m₂ : List ℕ} {ps qs : List Put} {ψ : Phase} → Sound m
 call-then s q r = record { moved = moved-then s q (r .moved); phase = r .phase }
 
 pub stretch : {m : List ℕ} {φ ψ : Phase} {t : List Call} {ps : List Put} → Sound m → In m φ → Between m φ t ps ψ → Stretched m ps (run m t) ψ
-unfolding run
+unfolding after run
 stretch s i nothing = record { moved = no-move s; phase = i }
 stretch {φ = φ} s i (reading a d) =
     let q = read-quiet a s in

@@ -1,38 +1,20 @@
 -- The calls of a plain host. Before each frame it writes whole registers of voices, each after its page; then it runs the frame.
--- In order: where a word of a voice is written; the calls of a write; a score and its calls; the score on other voices; what a score may
--- hold. Assumes nothing.
-use mathlib.Core.Bool.{cond}
+-- In order: the calls of writes; a score and its calls; the score on other voices; what a score may hold. The calls of one write are
+-- `calls/specs/Writes`. Assumes nothing.
 use mathlib.Core.List.{List, [], _∷_, _++_, map}
-use Prim.Native.Nat.{ℕ, _+_, _-_, _*_, _^_, _<_, _≤_}
-use lib.Dec.{ltb}
+use Prim.Native.Nat.{ℕ, _^_, _<_, _≤_}
 use lib.IntN.{pos}
 use lib.ListN.{length, replicate}
 use Rattle.sample.specs.Sample.{MOST_MEMORY_WORDS}
-use Rattle.machine.specs.Words.{VOICES, VOICE_WORDS, START, OUTPUT_VALUES}
-use Rattle.registers.specs.Registers.{byteOf}
-use Rattle.calls.specs.Calls.{Call, Write, Frame}
+use Rattle.machine.specs.Words.{VOICES, VOICE_WORDS, OUTPUT_VALUES}
+use Rattle.calls.specs.Calls.{Call, Frame}
+use Rattle.calls.specs.Writes.{writeCalls}
 use Rattle.renumber.specs.Demand.{Put}
 
--- ---- where word j of voice v is written
-
--- CR to K1RAMP are on page v, as registers 0 to 10; START and those after it on page 32 + v, from register 1 on
-unfoldable pub pageFor : ℕ → ℕ → ℕ
-pageFor v j = cond (ltb j START) v (32 + v)
-
-unfoldable pub registerFor : ℕ → ℕ
-registerFor j = cond (ltb j START) j (1 + (j - START))
-
--- ---- the calls of a write: the page by its lowest byte alone, and the four bytes of the register
+-- ---- the calls of writes
 
 unfoldable pub writes : Put → List Call
-writes p =
-    let r = registerFor (p .word) in
-    Write (4 * 15 + 3) (pageFor (p .voice) (p .word))
-    ∷ Write (4 * r + 0) (byteOf 0 (p .number))
-    ∷ Write (4 * r + 1) (byteOf 1 (p .number))
-    ∷ Write (4 * r + 2) (byteOf 2 (p .number))
-    ∷ Write (4 * r + 3) (byteOf 3 (p .number))
-    ∷ []
+writes p = writeCalls (p .voice) (p .word) (p .number)
 
 unfoldable pub allWrites : List Put → List Call
 allWrites [] = []
