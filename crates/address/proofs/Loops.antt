@@ -3,7 +3,7 @@
 -- register); the interrupt flag after a step (`stepped-flag`: as it was, or on where IRQE is 1 and the test holds). The four ways of an event
 -- are Laws; that no step heeds the flag is Agree. Assumes nothing.
 use mathlib.Core.Path.{_≡_, sym, ap, _∙_}
-use mathlib.Core.Bool.{cond, not, _&&_, _||_, and-true, and-false, or-true, or-false}
+use mathlib.Core.Bool.{cond, _&&_, _||_, and-true, and-false, or-true, or-false}
 use Prim.Native.Nat.{ℕ, _≤_}
 use native.Mathlib.Omega.{arith}
 use lib.IntN.{ℤ, pos, _+ℤ_, _-ℤ_}

@@ -1,7 +1,7 @@
 -- Twenty words and the voice that they are, and the stores of the code's functions by the voice that they leave.
--- In order: twenty words are the words of their voice (`words-voice`); the address step's stores (`accum-stored`, `place-stored`); the ramps'
--- (`levels-stored`, `levels-left`); the filters' (`back-…`, `outputs-stored`); the parts of a turn one after another (`filters-…`, `step-…`,
--- `parts-run`, `parts-stand`). What a turn leaves of the registers themselves is Keeps. Assumes nothing.
+-- In order: twenty words are the words of their voice (`words-voice`); the address step's stores (`accum-stored`, `place-stored`); the
+-- ramps' (`levels-stored`, `levels-left`); the filters' (`back-…`, `outputs-stored`); the parts of a turn one after another (`filters-…`,
+-- `step-…`, `parts-run`, `parts-stand`). What a turn leaves of the registers themselves is Keeps. Assumes nothing.
 use mathlib.Core.Path.{_≡_, refl, sym, ap, subst, _∙_}
 use mathlib.Core.List.{List}
 use Prim.Native.Nat.{ℕ}
