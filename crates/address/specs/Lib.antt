@@ -1,3 +1,3 @@
 pub mod Address
 pub mod Event
-pub mod Loops
+pub mod LoopEvent

@@ -1,4 +1,4 @@
 pub mod Performs
-pub mod Valid
 pub mod Runs
-pub mod Writes
+pub mod Valid
+pub mod WholeWrite

@@ -1,9 +1,9 @@
--- A valid record stays valid under every call, and under every run of calls. In order: a frame; any call; a run. Assumes nothing.
+-- A valid record stays valid under every call, and under every run of calls. In order: any call
+-- (`after-valid`); a run (`run-valid`). A frame's part is Runs. Assumes nothing.
 use mathlib.Core.Path.{_≡_}
 use mathlib.Core.Bool.{true}
 use mathlib.Core.List.{List, [], _∷_}
 use Prim.Native.Nat.{ℕ, _<_}
-use lib.IntN.{ℤ}
 use Rattle.numbers.proofs.Tests.{either}
 use Rattle.answer.specs.Answer.{isDone}
 use Rattle.machine.specs.Words.{valid}
@@ -11,17 +11,8 @@ use Rattle.machine.specs.Reset.{resetAnswer, fresh, resetRecord}
 use Rattle.machine.proofs.Fresh.{fresh-valid}
 use Rattle.machine.proofs.Valid.{sound, is-valid}
 use Rattle.registers.proofs.Corollaries.{write-valid, read-valid, pot-valid}
-use Rattle.frame.specs.Frame.{played, closed, frameAnswer, frameRecord}
-use Rattle.frame.proofs.Keeps.{sound-played}
-use Rattle.frame.proofs.Leaves.{sound-closed}
+use Rattle.calls.proofs.Runs.{frame-sound}
 use Rattle.calls.specs.Calls.{Call, Reset, Write, Read, SetPot, Frame, after, run}
-
-frame-valid : (m memory : List ℕ) (out : List ℤ) → valid m ≡ true → valid (frameRecord m memory out) ≡ true
-unfolding frameRecord
-frame-valid m memory out v =
-    either (λ (n : List ℕ). valid n ≡ true) (isDone (frameAnswer m memory out)) (closed (played memory m)) m
-    (λ _. is-valid (closed (played memory m)) (sound-closed (played memory m) (sound-played memory (sound m v))))
-    (λ _. v)
 
 -- a call whose byte is one
 abbrev pub Byte : Call → Type 0
@@ -37,7 +28,7 @@ after-valid m Reset h v = either (λ (n : List ℕ). valid n ≡ true) (isDone (
 after-valid m (Write a b) h v = write-valid m a b h v
 after-valid m (Read a) h v = read-valid m a v
 after-valid m (SetPot p) h v = pot-valid m p v
-after-valid m (Frame memory out) h v = frame-valid m memory out v
+after-valid m (Frame memory out) h v = is-valid _ (frame-sound m memory out (sound m v))
 
 abbrev pub Bytes : List Call → Type 0
 Bytes [] = Unit {0}

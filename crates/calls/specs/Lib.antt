@@ -1,3 +1,3 @@
 pub mod Calls
 pub mod Asks
-pub mod Writes
+pub mod WholeWrite

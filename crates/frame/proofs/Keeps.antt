@@ -1,6 +1,6 @@
--- A turn keeps a valid record valid, and leaves what is not its own: the other voices, and the shared words but the sums and the vector.
--- In order: the ranges of a valid record's voices; a voice's words after a turn; a sum; the interrupt step; the turn; the turns; the
--- closing. Assumes nothing.
+-- A turn keeps a valid record valid.
+-- In order: the ranges of a valid record's voices; a voice's words after a turn; the parts of a turn on the record; the turn, and the turns; a
+-- whole frame's turns. What they leave, word by word, and that the closing keeps a record valid too, is Leaves. Assumes nothing.
 use mathlib.Core.Path.{_≡_, refl, subst, _∙_}
 use mathlib.Core.Bool.{Bool, true, _&&_}
 use mathlib.Core.List.{List, [], _∷_}

@@ -1,7 +1,7 @@
 -- What a turn, the turns and the closing leave, voice by voice and word by word; and what is put out.
--- In order: what a turn does with a voice's words (`wordsAfter`), and what it adds to each sum (`share`); the parts of a turn (`signalled-…`,
--- `added-…`); the turn (`turn-word`, `turn-vector`, `turn-sum`, `turn-same`, `turn-other`); the turns of voices 0 to k - 1 (`Turned`, `turned`,
--- `all-turned`); the closing (`silenced-…`, `closed-…`, `sound-closed`); both (`closed-stays`); the output (`heard-…`).
+-- In order: what a turn does with a voice's words (`wordsAfter`), and what it adds to each sum (`portion`, `share`); the parts of a turn
+-- (`added-…`); the turn (`turn-word`, `turn-vector`, `turn-sum`, `turn-same`, `turn-other`); the turns of voices 0 to k - 1 (`shares`, `Turned`,
+-- `slow-stays`, `turned`, `all-turned`), which do not say what becomes of the vector; the closing (`silenced-…`, `closed-…`, `sound-closed`); both (`closed-stays`); the output (`heard-…`).
 -- That a turn and the turns keep a record valid is Keeps, and what one voice's turn does to its own registers is the crate `voice`.
 -- Assumes nothing.
 use mathlib.Core.Path.{_≡_, refl, sym, ap, _∙_}
@@ -50,9 +50,9 @@ share memory slow w i = let t = turnOf memory slow (voiceOf w) in portion (chann
 -- ---- the parts of a turn
 
 module _ (m : List ℕ) (v CR : ℕ) where
-  pub signalled-word : (i : ℕ) → i ≢ IRQV → getD (signalled m v CR) i 0 ≡ getD m i 0
+  signalled-word : (i : ℕ) → i ≢ IRQV → getD (signalled m v CR) i 0 ≡ getD m i 0
   unfolding signalled
-  signalled-word i h = either (λ r. getD r i 0 ≡ getD m i 0) (flagOf IRQ CR && eqb (getD m IRQV 0) 128) (set m IRQV v) m
+  signalled-word i h = either (λ r. getD r i 0 ≡ getD m i 0) (flagOf IRQ CR && eqb (getD m IRQV 0) NO_INTERRUPT) (set m IRQV v) m
       (λ _. getD-set-other m IRQV i v 0 h) (λ _. refl)
 
   -- the vector, if it is empty, takes a voice that waits
@@ -62,9 +62,9 @@ module _ (m : List ℕ) (v CR : ℕ) where
       (λ t. rw t (getD-set-same m IRQV v 0 (omega arith)))
       (λ t. rw t)
 
-  pub signalled-voice : (u : ℕ) → length m ≡ RECORD_WORDS → u < 32 → voiceAt (signalled m v CR) u ≡ voiceAt m u
+  signalled-voice : (u : ℕ) → length m ≡ RECORD_WORDS → u < 32 → voiceAt (signalled m v CR) u ≡ voiceAt m u
   unfolding signalled
-  signalled-voice u l h = either (λ r. voiceAt r u ≡ voiceAt m u) (flagOf IRQ CR && eqb (getD m IRQV 0) 128) (set m IRQV v) m
+  signalled-voice u l h = either (λ r. voiceAt r u ≡ voiceAt m u) (flagOf IRQ CR && eqb (getD m IRQV 0) NO_INTERRUPT) (set m IRQV v) m
       (λ _. voice-set-shared m u IRQV v l h (omega arith)) (λ _. refl)
 
 added-to-voice : (m : List ℕ) (i : ℕ) (z : ℤ) (u : ℕ) → length m ≡ RECORD_WORDS → u < 32 → PAGE ≤ i → voiceAt (addedTo m i z) u ≡ voiceAt m u
@@ -84,7 +84,7 @@ module _ (m : List ℕ) (channel : ℕ) (left right : ℤ) where
       (λ _. added-to-other n (SUMS + 2 * channel + 1) i right (λ e. omega arith) ∙ added-to-other m (SUMS + 2 * channel) i left (λ e. omega arith))
       (λ _. refl)
 
-  pub added-voice : (u : ℕ) → length m ≡ RECORD_WORDS → u < 32 → voiceAt (added m channel left right) u ≡ voiceAt m u
+  added-voice : (u : ℕ) → length m ≡ RECORD_WORDS → u < 32 → voiceAt (added m channel left right) u ≡ voiceAt m u
   unfolding added
   added-voice u l h =
       let n = addedTo m (SUMS + 2 * channel) left in
@@ -170,7 +170,7 @@ module _ (memory : List ℕ) (v : ℕ) (m : List ℕ) (s : Sound m) (h : v < 32)
   unfolding turnAt put wordsAfter
   turn-word i k l d = signalled-word _ v _ i d ∙ added-word _ _ _ _ i l ∙ put-word i k
 
-  -- the vector: as the flag stands after the address step
+  -- the vector, by the flag as the turn leaves it
   pub turn-vector : getD (turnAt memory v m) IRQV 0
       ≡ cond (flagOf IRQ (turnOf memory (getD m SLOW 0) (voiceOf (voiceAt m v)) .voice .cr) && eqb (getD m IRQV 0) NO_INTERRUPT) v (getD m IRQV 0)
   unfolding turnAt put wordsAfter
@@ -266,7 +266,7 @@ module _ (m : List ℕ) (s : Sound m) where
   low-length : length (take SUMS m) ≡ SUMS
   low-length = length-take-le SUMS m (omega (arith, s .size))
 
-  pub silenced-length : length (silenced m) ≡ RECORD_WORDS
+  silenced-length : length (silenced m) ≡ RECORD_WORDS
   unfolding silenced
   silenced-length = simp (length-append, low-length, length-drop) (omega (arith, s .size))
 
@@ -275,7 +275,7 @@ module _ (m : List ℕ) (s : Sound m) where
   silenced-word i h =
       List·getD-append (take SUMS m) (replicate 12 0 ++ drop 12 (drop SUMS m)) 0 i (omega (arith, low-length)) ∙ getD-take SUMS m i 0 h
 
-  pub silenced-sum : (i : ℕ) → i < 12 → getD (silenced m) (SUMS + i) 0 ≡ 0
+  silenced-sum : (i : ℕ) → i < 12 → getD (silenced m) (SUMS + i) 0 ≡ 0
   unfolding silenced
   silenced-sum i h =
       ap (λ (n : ℕ). getD (silenced m) (n + i) 0) (sym low-length)
@@ -321,7 +321,7 @@ module _ (m : List ℕ) (s : Sound m) where
       sound-set SLOW next silenced-sound (omega arith)
       (and-mask next 3 ∙ mod-eq-of-lt (omega arith)) (λ e. absurd (let y : ⊥ = omega arith in y))
 
--- a word that neither they nor the closing touch
+-- a word that neither the turns nor the closing touch
 pub closed-stays : {memory m m′ : List ℕ} {k : ℕ} → Turned memory k m m′ → (i : ℕ) → PAGE ≤ i → i < SUMS → i ≢ IRQV → i ≢ SLOW → getD (closed m′) i 0 ≡ getD m i 0
 closed-stays {m′ = m′} t i h l d e = closed-word m′ (t .sound) i l e ∙ t .words i h l d
 

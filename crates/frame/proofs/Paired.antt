@@ -1,6 +1,8 @@
 -- One frame of two machines whose voices are in a relation that a turn keeps and in which they add the same: it puts out the same values, and
 -- the relation holds after it. The voices may have other numbers, since sums may be taken in any order.
--- In order: such relations (`Kept`); what is put out (`heard-paired`); the machines after it (`closed-paired`). Assumes nothing.
+-- In order: such relations (`KeptByTurns`); what is put out (`heard-paired`); the machines after it (`closed-paired`).
+-- It serves relations that say the same of every voice, under one sample memory. The frame as a call is `calls/proofs/Runs`; what a frame leaves of
+-- one machine is Leaves. Assumes nothing.
 use mathlib.Core.Path.{_≡_, sym, ap, _∙_}
 use mathlib.Core.List.{List}
 use Prim.Native.Nat.{ℕ, suc, _+_, _%_, _≤_, _<_}
@@ -14,15 +16,15 @@ use Rattle.machine.proofs.Valid.{Sound}
 use Rattle.frame.specs.Frame.{played, heard, closed}
 use Rattle.frame.specs.Paired.{Paired}
 use Rattle.frame.proofs.Keeps.{active-le}
-use Rattle.frame.proofs.Sum.{sum-ext, sum-renumbered, stays-out}
+use Rattle.frame.proofs.Sum.{sum-ext, sum-renumbered, maps-outside}
 use Rattle.frame.proofs.Leaves.{wordsAfter, share, shares, Turned, slow-stays, all-turned, closed-voice, closed-slow, closed-sum, closed-stays, heard-same}
 
 -- a turn keeps P, and two voices in P add the same to each sum
-pub record Kept (P : List ℕ → List ℕ → Type 0) : Type 0 where
+pub record KeptByTurns (P : List ℕ → List ℕ → Type 0) : Type 0 where
   pub turns : (memory : List ℕ) (slow : ℕ) {w x : List ℕ} → P w x → P (wordsAfter memory slow w) (wordsAfter memory slow x)
   pub adds : (memory : List ℕ) (slow : ℕ) {w x : List ℕ} → P w x → (i : ℕ) → share memory slow w i ≡ share memory slow x i
 
-module _ (P : List ℕ → List ℕ → Type 0) (K : Kept P) (memory : List ℕ) (s : ℕ → ℕ) (m n : List ℕ) (sm : Sound m) (sn : Sound n)
+module _ {P : List ℕ → List ℕ → Type 0} (K : KeptByTurns P) (memory : List ℕ) {s : ℕ → ℕ} {m n : List ℕ} (sm : Sound m) (sn : Sound n)
     (into : (v : ℕ) → v < 32 → s v < 32) (one-to-one : (v u : ℕ) → v < 32 → u < 32 → s v ≡ s u → v ≡ u)
     (stays-active : (v : ℕ) → v ≤ getD m ACTV 0 → s v ≤ getD m ACTV 0) (M : Paired P s m n) where
   -- how many voices have a turn
@@ -43,7 +45,7 @@ module _ (P : List ℕ → List ℕ → Type 0) (K : Kept P) (memory : List ℕ)
   -- an inactive voice becomes an inactive one
   stays-inactive : (v : ℕ) → v < 32 → count ≤ v → count ≤ s v
   stays-inactive v h k =
-      stays-out count s into-active active-once v (λ u l e. let d : v ≡ u = one-to-one v u h (omega (arith, count-le)) e in let z : ⊥ = omega arith in z)
+      maps-outside count s into-active active-once v (λ u l e. let d : v ≡ u = one-to-one v u h (omega (arith, count-le)) e in let z : ⊥ = omega arith in z)
 
   tm : Turned memory count m (played memory m)
   unfolding count

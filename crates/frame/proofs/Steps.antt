@@ -1,5 +1,5 @@
--- The parts of a turn and of the closing by their tests, and the loops' laws: one held sum more, a word of the record after a
--- sum. Assumes nothing.
+-- The parts of a turn by their tests, and the loops' laws: one held sum more, a word of the record after a sum. What they leave word by word
+-- is Leaves. Assumes nothing.
 use mathlib.Core.Path.{_≡_, refl, ap}
 use mathlib.Core.Bool.{true, false}
 use mathlib.Core.List.{List, [], _∷_, _++_, map, append-nil}

@@ -1,6 +1,7 @@
--- Sums over the numbers below k, and that a renumbering leaves them as they were. A renumbering is only asked to be one-to-one: that it is
--- onto is counted here.
--- In order: sums; a number that is hit or missed; how often a map hits a number; the law. Assumes nothing.
+-- Sums over the numbers below k, and that a renumbering of these leaves them as they were. It is asked to lead to numbers below k, and to be
+-- one-to-one; that it is onto is counted here.
+-- In order: sums (`sum`, `sum-ext`); a number that is hit or missed; how often a map hits a number; the two laws (`sum-renumbered`,
+-- `maps-outside`). That sums of channels may be taken in any order is `channel/proofs/Laws`. Assumes nothing.
 use mathlib.Core.Path.{_≡_, refl, sym, ap, _∙_}
 use mathlib.Core.Bool.{cond}
 use Prim.Native.Nat.{ℕ, zero, suc, _+_, _*_, _≤_, _<_}
@@ -79,12 +80,12 @@ unfolding hits sum
 never zero s u h = refl
 never (suc j) s u h = omega (arith, never j s u (λ v l. h v (omega arith)), missed u (s j) (h j (omega arith)))
 
--- k numbers, each at most 1, whose sum is k: each is 1
 sum-below : (k : ℕ) (c : ℕ → ℕ) → ((u : ℕ) → u < k → c u ≤ 1) → sum k c ≤ k
 unfolding sum
 sum-below zero c h = omega arith
 sum-below (suc k) c h = omega (arith, sum-below k c (λ u l. h u (omega arith)), h k (omega arith))
 
+-- k numbers, each at most 1, whose sum is k: each is 1
 all-one : (k : ℕ) (c : ℕ → ℕ) → ((u : ℕ) → u < k → c u ≤ 1) → sum k c ≡ k → (u : ℕ) → u < k → c u ≡ 1
 unfolding sum
 all-one zero c h e u l = absurd (not-suc-le-zero l)
@@ -92,7 +93,7 @@ all-one (suc k) c h e u l = hit-cases u k _
     (λ q i. omega (arith, sum-below k c (λ v m. h v (omega arith)), h k (omega arith), ap c q))
     (λ q i. all-one k c (λ v m. h v (omega arith)) (omega (arith, sum-below k c (λ v m. h v (omega arith)), h k (omega arith))) u (omega arith))
 
--- ---- the law: s maps the numbers below k to such numbers, and no two of them to one
+-- ---- the laws: s maps the numbers below k to such numbers, and no two of them to one
 
 module _ (k : ℕ) (s : ℕ → ℕ) (into : (v : ℕ) → v < k → s v < k) (one-to-one : (v u : ℕ) → v < k → u < k → s v ≡ s u → v ≡ u) where
   at-most-once : (u j : ℕ) → j ≤ k → hits j s u ≤ 1
@@ -122,8 +123,8 @@ module _ (k : ℕ) (s : ℕ → ℕ) (into : (v : ℕ) → v < k → s v < k) (o
       ∙ sum-ext k (λ u. sum k (λ v. hit u (s v) * g u)) g
       (λ u l. sum-mul k (λ v. hit u (s v)) (g u) ∙ ap (λ (n : ℕ). n * g u) (onto u l) ∙ one-mul (g u))
 
-  -- and a number that none of them is one-to-one with goes to none of them
-  pub stays-out : (v : ℕ) → ((u : ℕ) → u < k → s v ≡ s u → ⊥) → k ≤ s v
-  stays-out v other = cases (s v) k (k ≤ s v)
+  -- a number that s leads to no place of theirs, it leads outside
+  pub maps-outside : (v : ℕ) → ((u : ℕ) → u < k → s v ≡ s u → ⊥) → k ≤ s v
+  maps-outside v other = cases (s v) k (k ≤ s v)
       (λ l. omega (arith, onto (s v) l, never k s (s v) (λ u h q. other u h q)))
       (λ l. l)

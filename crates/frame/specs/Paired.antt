@@ -1,5 +1,6 @@
 -- Two machines whose voices are in a relation P, voice v of the one and voice s v of the other, and that have the same of all else that a
--- frame hears: what theorems about two machines speak of. Assumes nothing.
+-- frame hears: the shape of what theorems about two machines ask. `Match` of `renumber` is it, of voices with the same registers, spelled out there
+-- so that its statement stands in one file. Assumes nothing.
 use mathlib.Core.Path.{_≡_}
 use mathlib.Core.List.{List}
 use Prim.Native.Nat.{ℕ, _+_, _<_}

@@ -1,4 +1,4 @@
--- What the check of a record answers, by the record: of another length; with a stray bit; with a vector that is none; valid. And back:
+-- What the check of a record answers, by the record: of another length; with a stray bit; with a vector that is none, or one. And back:
 -- a record that is not refused is sound. Assumes nothing.
 use mathlib.Core.Path.{_≡_, refl, sym, ap, subst, _∙_}
 use mathlib.Core.Bool.{Bool, true, false, not, cond, _&&_, false≢true}
@@ -37,10 +37,6 @@ module _ (m : List ℕ) where
   unfolding checked valid
   check-vector h k true q = rw (eq-eqb (length m) RECORD_WORDS h, k, q)
   check-vector h k false q = rw (eq-eqb (length m) RECORD_WORDS h, k, q)
-
-  pub check-valid : Sound m → checked m ≡ Done
-  unfolding checked
-  check-valid s = rw (eq-eqb (length m) RECORD_WORDS (s .size), is-valid m s)
 
 -- the other way round: neither of the check's tests holds of a sound record, and of no other
 pub sound-tests : (m : List ℕ) → Sound m → (wrongLength m ≡ false) × (notValid m ≡ false)

@@ -1,7 +1,7 @@
 -- What a valid record has, and what is enough for one; the check's way of going about it finds the same; what keeps a record valid.
--- In order: tests of all words; validity by its parts, `Sound`; the check's test is validity; words that are cut (`cut-again`, `cut-voice`);
--- a store and a put voice keep it.
--- Assumes nothing.
+-- In order: tests of all words; validity by its parts (`Sound`, `sound`, `is-valid`, `word-le`); the check's test is validity (`bits-voice`,
+-- `words-test`); words that are cut (`cut-again`, `cut-voice`); a store and a put voice keep it (`sound-set`, `sound-put`), and a voice of a valid
+-- record is cut (`sound-voice`). What the check answers is Answers. Assumes nothing.
 use mathlib.Core.Path.{_≡_, refl, sym, ap, ap₂, subst, _∙_}
 use mathlib.Core.Bool.{Bool, true, false, _&&_, false≢true}
 use mathlib.Core.List.{List}

@@ -89,7 +89,7 @@ pub const OUTPUT_VALUES: usize = 12;
 pub const SUMS_END: usize = SUMS + OUTPUT_VALUES;
 
 // How many shared words there are.
-pub const SHARED_WORDS: usize = RECORD_WORDS - PAGE;
+pub const SHARED_WORDS: usize = 23;
 
 // What the interrupt vector holds where it names no voice.
 pub const NO_INTERRUPT: u32 = 128;

@@ -1,16 +1,14 @@
 -- A whole number as a difference of two natural numbers, `a ⊖ b`, so that `omega` serves for ℤ: each operation of ℤ on differences is a
 -- difference again, two differences are equal where a + d ≡ c + b, and they compare as a + d and c + b do. Assumes nothing.
 use mathlib.Core.Path.{_≡_, refl, sym, ap, _∙_}
-use Prim.Native.Nat.{ℕ, zero, suc, _+_, _-_, _*_, _/_, _%_, _^_, _<_, _≤_}
+use Prim.Native.Nat.{ℕ, zero, suc, _+_, _-_, _*_, _/_, _%_, _<_, _≤_}
 use native.Mathlib.Nat.{div-add-mod', mod-lt, div-lt-iff-lt-mul, mul-add-div-right, mul-add-mod-self-right}
 use native.Mathlib.Omega.{arith}
 use lib.Arith.{digits-div, digits-mod}
 use lib.Dec.{ltb}
 use borrow.Author.Tests.{lt-ltb, le-ltb, ltb-true, ltb-false}
 use lib.IntN.{ℤ, pos, negsuc, negℤ, subℕ, _+ℤ_, _-ℤ_, _*ℤ_}
-use lib.Signed.{ltZ, mag}
-use mir.Syntax.{Width}
-use mir.Val.{SFits, hbits}
+use lib.Signed.{ltZ}
 use Rattle.numbers.specs.Numbers.{floorDiv, floorMod}
 use Rattle.numbers.proofs.Tests.{either, split}
 
@@ -112,6 +110,3 @@ pub ⊖-lt : (a b c d : ℕ) → ltZ (a ⊖ b) (c ⊖ d) ≡ ltb (a + d) (c + b)
     (λ m p. ⊖-ind (λ y. ltZ (negsuc m) y ≡ ltb (a + d) (c + b)) c d
     (λ n q. sym (lt-ltb (a + d) (c + b) (omega arith)))
     (λ n q. same-test n m (a + d) (c + b) (omega arith)))
-
-pub sfits-⊖ : (w : Width) (a b : ℕ) → a < b + 2 ^ hbits w → b ≤ a + 2 ^ hbits w → SFits w (a ⊖ b)
-sfits-⊖ w a b h k = record { sfits = ⊖-ind (λ z. mag z < 2 ^ hbits w) a b (λ n p. omega arith) (λ n p. omega arith) }

@@ -15,7 +15,7 @@ use Rattle.registers.specs.declared.Register.{Register}
 use Rattle.registers.specs.declared.Register.the-variants.{Word, Sum, Par, Irqv, Nothing}
 use Rattle.registers.specs.Registers.{registerOf, lowPage, highPage, sumPage}
 use Rattle.registers.specs.Inside.{Inside}
-use Rattle.registers.specs.Place.{pageFor, registerFor}
+use Rattle.registers.specs.Named.{pageFor, registerFor}
 use Rattle.registers.proofs.Inside.{inside}
 
 -- ---- PAGE

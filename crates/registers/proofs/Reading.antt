@@ -1,5 +1,5 @@
 -- What a byte read leaves.
--- In order: a fact of the record holds after a read if it holds of what byte 0 of each register leaves (`after-read`); every word but four is
+-- In order: a fact of the record holds after a read if it holds before it and of what byte 0 of the register leaves (`after-read`); every word but four is
 -- as it was (`read-keeps`, and of the words that voices share, on a valid record, `read-shared`), and of a control register every bit but the
 -- interrupt flag (`read-flag`); byte 0 of the vector (`read-vector`).
 -- That the record stays valid, and that a refused read leaves it, is Corollaries. Assumes nothing.
@@ -28,12 +28,13 @@ use Rattle.registers.proofs.Laws.{byte-done}
 
 -- ---- after a read
 
-pub after-read : (P : List ℕ → Type 0) (m : List ℕ) (a : ℕ) → P m → (Sound m → (register : Register) → P (sideEffect (set m READ_LATCH (readAs m register)) register))
+pub after-read : (P : List ℕ → Type 0) (m : List ℕ) (a : ℕ) → P m
+    → (Sound m → a ≤ 63 → a % 4 ≡ 0 → (register : Register) → registerOf (getD m PAGE 0) (a / 4) ≡ register → P (sideEffect (set m READ_LATCH (readAs m register)) register))
     → P (readRecord m a)
 unfolding readRecord readFrom
 after-read P m a h f =
     either P (isDone (byteAnswer m a)) (readFrom m (a / 4) (a % 4)) m
-    (λ d. either P (eqb (a % 4) 0) _ m (λ _. f (byte-done m a d .0) (registerOf (getD m PAGE 0) (a / 4))) (λ _. h))
+    (λ d. let p = byte-done m a d in either P (eqb (a % 4) 0) _ m (λ t. f (p .0) (p .1) (eqb-true (a % 4) 0 t) (registerOf (getD m PAGE 0) (a / 4)) refl) (λ _. h))
     (λ _. h)
 
 -- ---- what it can change
@@ -59,7 +60,7 @@ module _ (m : List ℕ) (i : ℕ) (not-vector : i ≢ IRQV) where
 -- Every word is as it was, but for the read latch, PAR, IRQV and the control register of the voice that the vector names.
 pub read-keeps : (m : List ℕ) (a i : ℕ) → i ≢ READ_LATCH → i ≢ PAR → i ≢ IRQV → i ≢ voiceWord (getD m IRQV 0) CR → getD (readRecord m a) i 0 ≡ getD m i 0
 read-keeps m a i l p q h = after-read (λ (n : List ℕ). getD n i 0 ≡ getD m i 0) m a refl
-    (λ _ register.
+    (λ _ _ _ register _.
     let x = readAs m register in
     let same : getD (set m READ_LATCH x) IRQV 0 ≡ getD m IRQV 0 = getD-set-other m READ_LATCH IRQV x 0 (λ (z : IRQV ≡ READ_LATCH). omega arith) in
     side-effect-keeps (set m READ_LATCH x) i q register p (subst (λ (v : ℕ). i ≢ voiceWord v CR) (sym same) h) ∙ getD-set-other m READ_LATCH i x 0 l)
@@ -71,7 +72,7 @@ vector-below m i s h k e = cases (getD m IRQV 0) 32 ⊥
     (λ l. omega arith)
     (λ l. let q = eqb-true (getD m IRQV 0) 128 (rw (le-ltb (getD m IRQV 0) 32 l) at (s .vector)) in omega arith)
 
--- so of those three are left to change
+-- so of the shared words only the read latch, PAR and IRQV can change
 pub read-shared : (m : List ℕ) (a i : ℕ) → Sound m → PAGE ≤ i → i < RECORD_WORDS → i ≢ READ_LATCH → i ≢ PAR → i ≢ IRQV → getD (readRecord m a) i 0 ≡ getD m i 0
 read-shared m a i s h k l p q = read-keeps m a i l p q (vector-below m i s h k)
 
@@ -102,7 +103,7 @@ module _ (m : List ℕ) (long : length m ≡ RECORD_WORDS) (v n : ℕ) (hv : v <
 -- And of a control register every bit but the interrupt flag is as it was.
 pub read-flag : (m : List ℕ) (a v n : ℕ) → v < 32 → n ≢ IRQ → bitOf n (getD (readRecord m a) (voiceWord v CR) 0) ≡ bitOf n (getD m (voiceWord v CR) 0)
 read-flag m a v n h k = after-read (λ (l : List ℕ). bitOf n (getD l (voiceWord v CR) 0) ≡ bitOf n (getD m (voiceWord v CR) 0)) m a refl
-    (λ s register.
+    (λ s _ _ register _.
     let x = readAs m register in
     side-effect-bit (set m READ_LATCH x) (length-set m READ_LATCH x ∙ s .size) v n h k register
     ∙ ap (bitOf n) (getD-set-other m READ_LATCH (voiceWord v CR) x 0 (λ z. omega arith)))

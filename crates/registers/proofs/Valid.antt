@@ -1,5 +1,6 @@
 -- What each rule on a register leaves of a valid record is valid.
--- In order: words that are cut already; the latches and the pot result; writing; reading. Assumes nothing.
+-- In order: words of a valid record and how great they are (`word-lt`, `cr-lt`, `latch-lt`); the latches and the pot result; writing
+-- (`write-sound`); reading (`read-sound`). That each call keeps a record valid is Corollaries. Assumes nothing.
 use mathlib.Core.Path.{_≡_, refl, _∙_}
 use mathlib.Core.List.{List}
 use mathlib.Core.Logic.{_≢_}

@@ -2,8 +2,9 @@
 -- In order: a byte written to a valid record, by its register and its place there (`write-byte`); the write latch's highest bytes (`topOf`, and
 -- `top-none`, `top-next`, `top-last` as bytes are written), and those of a number (`byte-small`, `top-byte`, `four-bytes`); bytes 0 to 2
 -- change the latch alone (`byte-written`); byte 3 stores the latch and clears it (`last-written`); the lowest byte of PAGE (`page-written`,
--- `page-after`); what no byte changes: a word that it does not store into (`write-keeps`), the vector (`write-vector`); a whole write stores
--- the word and clears the latch, whatever the latch held (`latch-covered`, `whole-write`).
+-- `page-after`); what a byte leaves: a word below the sums that is not the latch and that it does not store into (`write-keeps`), the
+-- vector (`write-vector`); a whole write (`bytesTo`, `wholeWrite`) stores the word and clears the latch, whatever the latch held
+-- (`latch-covered`, `whole-write`).
 -- What a page and a number name is Named, that the record stays valid is Corollaries, and there too a whole write of a voice. Assumes nothing.
 use mathlib.Core.Path.{_≡_, refl, sym, ap, subst, _∙_}
 use mathlib.Core.List.{List}
@@ -27,7 +28,7 @@ use Rattle.registers.specs.declared.Register.{Register}
 use Rattle.registers.specs.declared.Register.the-variants.{Word, Sum, Par, Irqv, Nothing}
 use Rattle.registers.specs.Registers.{registerOf, byteOf, withByte, stored, writtenTo}
 use Rattle.registers.specs.Access.{byteAnswer, writeRecord}
-use Rattle.registers.specs.Place.{Stores}
+use Rattle.registers.specs.Named.{Stores}
 use Rattle.registers.proofs.Laws.{asked-done, byte-done, writes-done}
 use Rattle.registers.proofs.Named.{page-named, sum-above, word-not-vector}
 use Rattle.registers.proofs.Valid.{latch-lt, write-latch, byte-lt}
@@ -111,7 +112,7 @@ pub page-after : {m : List ℕ} (b : ℕ) → Sound m → b < 128 → getD (writ
 page-after {m} b s h =
     rw (page-written b s h) (getD-set-other (set m PAGE b) WRITE_LATCH PAGE 0 0 (λ e. omega arith) ∙ getD-set-same m PAGE b 0 (omega (arith, s .size)))
 
--- ---- what no byte changes
+-- ---- what a byte does not change
 
 stored-keeps : (m : List ℕ) (register : Register) (x i : ℕ) → ((j : ℕ) → register ≡ Sum j → SUMS ≤ j) → i < SUMS → (register ≡ Word i → ⊥)
     → getD (stored m register x) i 0 ≡ getD m i 0
@@ -180,8 +181,8 @@ module _ (m : List ℕ) (r x : ℕ) (s : Sound m) (h : r < 16) (small : x < 2 ^ 
     top : topOf n latch ≡ topOf n x
     leaves : bytesTo m r x n ≡ set m WRITE_LATCH latch
 
-  held : (y : ℕ) → getD (set m WRITE_LATCH y) WRITE_LATCH 0 ≡ y
-  held y = getD-set-same m WRITE_LATCH y 0 (omega (arith, s .size))
+  latch-is : (y : ℕ) → getD (set m WRITE_LATCH y) WRITE_LATCH 0 ≡ y
+  latch-is y = getD-set-same m WRITE_LATCH y 0 (omega (arith, s .size))
 
   part : (n : ℕ) → n < 4 → Part n
   unfolding bytesTo
@@ -199,7 +200,7 @@ module _ (m : List ℕ) (r x : ℕ) (s : Sound m) (h : r < 16) (small : x < 2 ^ 
         latch = withByte k b y;
         in-range = byte-lt k b y (omega arith) (byte-small k x) (p .in-range);
         top = rw (add-one k) at (top-next k b y (omega arith) (byte-small k x) (p .in-range) ∙ ap (λ (t : ℕ). 256 * t + b) (p .top) ∙ top-byte k x (omega arith));
-        leaves = rw (p .leaves) (byte-written r k b (write-latch y s (p .in-range)) h (omega arith) ∙ rw (set-set, held y));
+        leaves = rw (p .leaves) (byte-written r k b (write-latch y s (p .in-range)) h (omega arith) ∙ rw (set-set, latch-is y));
       }
 
   pub whole-write : wholeWrite m r x ≡ set (stored m (registerOf (getD m PAGE 0) r) x) WRITE_LATCH 0
@@ -210,4 +211,4 @@ module _ (m : List ℕ) (r x : ℕ) (s : Sound m) (h : r < 16) (small : x < 2 ^ 
       let e : withByte 3 (byteOf 3 x) y ≡ x = top-last (byteOf 3 x) y ∙ ap (λ (t : ℕ). 256 * t + byteOf 3 x) (p .top) ∙ top-byte 3 x (omega arith) ∙ top-all x in
       rw (p .leaves)
       (write-byte (set m WRITE_LATCH y) r 3 (byteOf 3 x) (write-latch y s (p .in-range)) h (omega arith)
-      ∙ rw (held y, getD-set-other m WRITE_LATCH PAGE y 0 (λ z. omega arith), e) (latch-covered m y (registerOf (getD m PAGE 0) r) x))
+      ∙ rw (latch-is y, getD-set-other m WRITE_LATCH PAGE y 0 (λ z. omega arith), e) (latch-covered m y (registerOf (getD m PAGE 0) r) x))

@@ -19,12 +19,12 @@ use Rattle.sample.specs.Sample.{MOST_MEMORY_WORDS}
 use Rattle.registers.specs.Registers.{registerOf, byteOf}
 use Rattle.registers.specs.declared.Register.the-variants.{Word}
 use Rattle.registers.specs.Access.{writeRecord}
-use Rattle.registers.specs.Place.{pageFor, registerFor}
+use Rattle.registers.specs.Named.{pageFor, registerFor}
 use Rattle.registers.proofs.Named.{page-lt, register-lt, named}
 use Rattle.registers.proofs.Writing.{byte-small, four-bytes, page-after}
 use Rattle.frame.proofs.Answered.{not-refused-frame}
 use Rattle.calls.specs.Calls.{Call, Frame, answerTo, after, run, outputs}
-use Rattle.calls.specs.Writes.{writeCalls}
+use Rattle.calls.specs.WholeWrite.{writeCalls}
 use Rattle.calls.proofs.Runs.{frame-sound}
 use Rattle.renumber.specs.Demand.{Renumbering, Match, Put, ofVoice, Phase, idle, Between, nothing, reading, potting, refused, paging, first, next, last}
 use Rattle.renumber.specs.Demand.{Log, End, Then, Trace, stop, go-on, SameWrites, Alike}
@@ -57,7 +57,7 @@ one-frame-more {m} {ψ = ψ} {t = t} memory out h k s i d f =
     let r = stretch s i d in
     let s₁ = r .moved .sound in
     let a = not-refused-frame (run m t) memory out s₁ h k in
-    go-on memory out d a (f (frame-sound (run m t) memory out a s₁) (over-frame ψ memory out a s₁ (r .phase)))
+    go-on memory out d a (f (frame-sound (run m t) memory out s₁) (over-frame ψ memory out s₁ (r .phase)))
 
 -- ---- the calls of writes
 

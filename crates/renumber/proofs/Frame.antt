@@ -1,5 +1,5 @@
--- One frame of two machines that match: it gives the same values, and they match after it. That is the law of frames for any relation of
--- voices (`frame/proofs/Paired`), of voices that hold the same registers. Assumes nothing.
+-- One frame of two machines that match: it gives the same values, and they match after it. It is the law of frames for every relation of voices,
+-- `frame/proofs/Paired`, taken for voices that hold the same registers. Assumes nothing.
 use mathlib.Core.Path.{_≡_, sym, _∙_}
 use mathlib.Core.List.{List}
 use Prim.Native.Nat.{ℕ}
@@ -12,13 +12,13 @@ use Rattle.frame.specs.Frame.{played}
 use Rattle.frame.specs.Paired.{Paired}
 use Rattle.frame.proofs.Keeps.{sound-played}
 use Rattle.frame.proofs.Leaves.{heard-length}
-use Rattle.frame.proofs.Paired.{Kept, heard-paired, closed-paired}
+use Rattle.frame.proofs.Paired.{KeptByTurns, heard-paired, closed-paired}
 use Rattle.calls.specs.Calls.{Frame, answerTo, after}
 use Rattle.calls.proofs.Runs.{frame-leaves, frame-gives}
 use Rattle.renumber.specs.Demand.{Renumbering, SameVoice, Match, SameFrame}
 use Rattle.renumber.proofs.Same.{same-after, same-share}
 
-kept : Kept SameVoice
+kept : KeptByTurns SameVoice
 kept = record { turns = λ memory slow h. same-after memory slow h; adds = λ memory slow h i. same-share memory slow h i }
 
 module _ (memory : List ℕ) (s : ℕ → ℕ) (m n : List ℕ) (sm : Sound m) (sn : Sound n) (R : Renumbering (getD m ACTV 0) s) (M : Match s m n)
@@ -28,11 +28,11 @@ module _ (memory : List ℕ) (s : ℕ → ℕ) (m n : List ℕ) (sm : Sound m) (
 
   pub frame-same : SameFrame m n (Frame memory out) (Frame memory out′)
   frame-same = record {
-    values = frame-gives m memory out dm ∙ heard-paired SameVoice kept memory s m n sm sn (R .into) (R .one-to-one) (R .stays-active) paired ∙ sym (frame-gives n memory out′ dn);
+    values = frame-gives m memory out dm ∙ heard-paired kept memory sm sn (R .into) (R .one-to-one) (R .stays-active) paired ∙ sym (frame-gives n memory out′ dn);
     twelve = rw (frame-gives m memory out dm) (heard-length (played memory m) (sound-played memory sm .size));
   }
 
   pub frame-match : Match s (after m (Frame memory out)) (after n (Frame memory out′))
   frame-match =
-      let p = closed-paired SameVoice kept memory s m n sm sn (R .into) (R .one-to-one) (R .stays-active) paired in
+      let p = closed-paired kept memory sm sn (R .into) (R .one-to-one) (R .stays-active) paired in
       rw (frame-leaves m memory out dm, frame-leaves n memory out′ dn) (record { voices = p .voices; active = p .active; slow = p .slow; sums = p .sums })

@@ -50,9 +50,9 @@ silent (last b hb d) = silent d
 -- ---- a write over a frame
 
 -- a frame leaves PAGE and the write latch, so a begun write goes on after it
-pub over-frame : {m : List ℕ} (φ : Phase) (memory : List ℕ) (out : List ℤ) → answerTo m (Frame memory out) ≡ Done → Sound m → In m φ → In (after m (Frame memory out)) φ
-over-frame {m} φ memory out done s i =
-    let keeps = frame-word m memory out done s in
+pub over-frame : {m : List ℕ} (φ : Phase) (memory : List ℕ) (out : List ℤ) → Sound m → In m φ → In (after m (Frame memory out)) φ
+over-frame {m} φ memory out s i =
+    let keeps = frame-word m memory out s in
     in-kept φ
     (record {
       page = keeps PAGE (lit≤ tt) (lit< tt) (λ e. omega arith) (λ e. omega arith);
@@ -83,9 +83,9 @@ along s {m} {n} sm sn pm pn R M (go-on {ψ = φ₁} {t = t} {u = u} memory out d
     let M₂ : Match s (after (run m t) (Frame memory out)) (after (run n t′) (Frame memory′ out′)) =
     rw (← (w .1)) (frame-match memory s (run m t) (run n t′) (a .sound) (b .sound) R₁ M₁ out out′ dm dn₁) in
     let R₂ : Renumbering (getD (after (run m t) (Frame memory out)) ACTV 0) s =
-    rw (frame-word (run m t) memory out dm (a .sound) ACTV (lit≤ tt) (lit< tt) (λ e. omega arith) (λ e. omega arith)) R₁ in
-    let r = along s (frame-sound (run m t) memory out dm (a .sound)) (frame-sound (run n t′) memory′ out′ dn (b .sound))
-    (over-frame φ₁ memory out dm (a .sound) (p .phase)) (over-frame ψ₁ memory′ out′ dn (b .sound) (q .phase)) R₂ M₂ f g (w .2) in (
+    rw (frame-word (run m t) memory out (a .sound) ACTV (lit≤ tt) (lit< tt) (λ e. omega arith) (λ e. omega arith)) R₁ in
+    let r = along s (frame-sound (run m t) memory out (a .sound)) (frame-sound (run n t′) memory′ out′ (b .sound))
+    (over-frame φ₁ memory out (a .sound) (p .phase)) (over-frame ψ₁ memory′ out′ (b .sound) (q .phase)) R₂ M₂ f g (w .2) in (
       (M₁, F, M₂, r .0),
       outputs-at m t (Frame memory out) u (silent d) ∙ ap₂ (λ x y. x ++ y) (F .values) (r .1) ∙ sym (outputs-at n t′ (Frame memory′ out′) u′ (silent e)),
       rw (run-both m t (Frame memory out ∷ u), run-both n t′ (Frame memory′ out′ ∷ u′)) (r .2),

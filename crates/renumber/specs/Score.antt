@@ -8,7 +8,7 @@ use lib.ListN.{length, replicate}
 use Rattle.sample.specs.Sample.{MOST_MEMORY_WORDS}
 use Rattle.machine.specs.Words.{VOICES, VOICE_WORDS, OUTPUT_VALUES}
 use Rattle.calls.specs.Calls.{Call, Frame}
-use Rattle.calls.specs.Writes.{writeCalls}
+use Rattle.calls.specs.WholeWrite.{writeCalls}
 use Rattle.renumber.specs.Demand.{Put}
 
 -- ---- the calls of writes

@@ -1,7 +1,7 @@
 -- The interrupt flag and a turn.
--- In order: two voices that hold the same registers, interrupt flags excepted (`ButFlag`); what the turn reads of them; a turn does not heed
--- the flag (`same-turn`: they add the same to their channel, which is the same, and are such voices after it); the flag after a turn
--- (`turn-flag`: as it was, or on where the turn raises it). The flag after the address step alone is `address/proofs/Loops`; what the frame
+-- In order: two voices that hold the same registers, interrupt flags excepted (`besideCR`, `ButFlag`); what the turn reads of them; a turn does
+-- not heed the flag (`SameTurn`, `same-turn`: they add the same, and are such voices after it); the flag after a turn
+-- (`turn-flag`: as it was, or on where the turn raises it). The flag after the address step alone is `address/proofs/LoopEvent`; what the frame
 -- does with it is `frame/proofs/Leaves`. Assumes nothing.
 use mathlib.Core.Path.{_≡_, refl, sym, ap, _∙_}
 use mathlib.Core.Bool.{_||_, or-false}
@@ -20,7 +20,7 @@ use Rattle.filter.proofs.Laws.{filtered-passes}
 use Rattle.volume.specs.Volume.{panned}
 use Rattle.address.specs.Address.{stepped}
 use Rattle.address.proofs.Agree.{SamePlace, stepped-agrees}
-use Rattle.address.proofs.Loops.{stepped-flag}
+use Rattle.address.proofs.LoopEvent.{stepped-flag}
 use Rattle.voice.specs.Voice.{Voice, Turn}
 use Rattle.voice.specs.Turn.{lastOutputs, rampedLevels, withOutputs, moved, sampled, stoppedTurn, runningTurn, turnOf}
 use Rattle.voice.specs.Raises.{raises}

@@ -1,7 +1,7 @@
--- The loop event as a test, `loops`.
--- In order: it is the address rule's event (`stepped-loops`: a step is an event where the test holds, and elsewhere leaves the control
--- register); the interrupt flag after a step (`stepped-flag`: as it was, or on where IRQE is 1 and the test holds). The four ways of an event
--- are Laws; that no step heeds the flag is Agree. Assumes nothing.
+-- The loop event as a test, `loopEvent`.
+-- In order: it is the address rule's event (`stepped-event`: a step is an event where the test holds, and elsewhere leaves the control
+-- register); the interrupt flag after a step (`stepped-flag`: as it was, or on where IRQE is 1 and the test holds). The step by each of
+-- its tests, and the four ways of an event, are Laws; that no step heeds the flag is Agree. Assumes nothing.
 use mathlib.Core.Path.{_≡_, sym, ap, _∙_}
 use mathlib.Core.Bool.{cond, _&&_, _||_, and-true, and-false, or-true, or-false}
 use Prim.Native.Nat.{ℕ, _≤_}
@@ -15,20 +15,20 @@ use Rattle.control.proofs.Bits.{flag-put, flag-other}
 use Rattle.address.specs.declared.Place.{Place}
 use Rattle.address.specs.Address.{raised, forward, reverse, stepped}
 use Rattle.address.specs.Event.{event}
-use Rattle.address.specs.Loops.{loops}
+use Rattle.address.specs.LoopEvent.{loopEvent}
 use Rattle.address.proofs.Laws.{raised-on, raised-off, forward-one, reverse-one}
 
 -- ---- the event
 
-pub stepped-loops : (CR FC START END ACCUM : ℕ)
+pub stepped-event : (CR FC START END ACCUM : ℕ)
     → stepped CR FC START END ACCUM
-    ≡ cond (loops CR FC START END ACCUM)
+    ≡ cond (loopEvent CR FC START END ACCUM)
     (cond (flagOf DIR CR)
     (event CR START (pos END -ℤ (pos START -ℤ (pos ACCUM -ℤ pos FC))) (pos START +ℤ (pos START -ℤ (pos ACCUM -ℤ pos FC))) 0)
     (event CR END (pos START +ℤ (pos ACCUM +ℤ pos FC -ℤ pos END)) (pos END -ℤ (pos ACCUM +ℤ pos FC -ℤ pos END)) 1))
     (record { accum = word 32 (cond (flagOf DIR CR) (pos ACCUM -ℤ pos FC) (pos ACCUM +ℤ pos FC)); cr = CR })
-unfolding stepped forward reverse loops
-stepped-loops CR FC START END ACCUM = split _ (flagOf DIR CR)
+unfolding stepped forward reverse loopEvent
+stepped-event CR FC START END ACCUM = split _ (flagOf DIR CR)
     (λ d. split _ (flagOf LEI CR)
     (λ l. rw (d, l))
     (λ l. split _ (ltZ (pos ACCUM -ℤ pos FC) (pos START))
@@ -62,10 +62,10 @@ event-flag CR passed across back direction h =
     (λ _. r)
     (λ _. flag-other IRQ STP0 1 (raised CR) (omega arith) (λ e. omega arith) ∙ r))
 
-pub stepped-flag : (CR FC START END ACCUM : ℕ) → flagOf IRQ (stepped CR FC START END ACCUM .cr) ≡ (flagOf IRQ CR || (flagOf IRQE CR && loops CR FC START END ACCUM))
+pub stepped-flag : (CR FC START END ACCUM : ℕ) → flagOf IRQ (stepped CR FC START END ACCUM .cr) ≡ (flagOf IRQ CR || (flagOf IRQE CR && loopEvent CR FC START END ACCUM))
 stepped-flag CR FC START END ACCUM =
-    ap (λ (p : Place). flagOf IRQ (p .cr)) (stepped-loops CR FC START END ACCUM)
-    ∙ split _ (loops CR FC START END ACCUM)
+    ap (λ (p : Place). flagOf IRQ (p .cr)) (stepped-event CR FC START END ACCUM)
+    ∙ split _ (loopEvent CR FC START END ACCUM)
     (λ t. rw (t, and-true (flagOf IRQE CR)) (either (λ (p : Place). flagOf IRQ (p .cr) ≡ (flagOf IRQ CR || flagOf IRQE CR)) (flagOf DIR CR) _ _
     (λ _. event-flag CR START _ _ 0 (omega arith))
     (λ _. event-flag CR END _ _ 1 (omega arith))))

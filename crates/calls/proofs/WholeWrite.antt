@@ -11,12 +11,12 @@ use Rattle.machine.proofs.Valid.{Sound, is-valid}
 use Rattle.registers.specs.Registers.{stored, registerOf}
 use Rattle.registers.specs.declared.Register.the-variants.{Word}
 use Rattle.registers.specs.Access.{writeRecord}
-use Rattle.registers.specs.Place.{pageFor, registerFor}
+use Rattle.registers.specs.Named.{pageFor, registerFor}
 use Rattle.registers.proofs.Named.{page-lt, register-lt, named}
 use Rattle.registers.proofs.Writing.{page-written, page-after, latch-covered, bytesTo}
 use Rattle.registers.proofs.Corollaries.{write-valid, whole-leaves}
 use Rattle.calls.specs.Calls.{after, run}
-use Rattle.calls.specs.Writes.{writeCalls}
+use Rattle.calls.specs.WholeWrite.{writeCalls}
 
 pub run-write : (m : List ℕ) (v j x : ℕ) → Sound m → v < 32 → j < 20 → x < 2 ^ 32
     → run m (writeCalls v j x) ≡ set (set (set m PAGE (pageFor v j)) (voiceWord v j) (cut (voiceWord v j) x)) WRITE_LATCH 0

@@ -2,7 +2,7 @@
 use mathlib.Core.List.{List, [], _∷_}
 use Prim.Native.Nat.{ℕ, _+_, _*_}
 use Rattle.registers.specs.Registers.{byteOf}
-use Rattle.registers.specs.Place.{pageFor, registerFor}
+use Rattle.registers.specs.Named.{pageFor, registerFor}
 use Rattle.calls.specs.Calls.{Call, Write}
 
 -- x into word j of voice v: the page by its lowest byte alone, and the four bytes of the register
