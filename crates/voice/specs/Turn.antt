@@ -1,7 +1,7 @@
 -- One turn of a voice: its twenty registers, the slow-ramp counter and the sample memory in; the registers afterwards and what it adds to
 -- the left and right sums of its channel out. The turn does not know the voice's number.
--- In order: the poles' last outputs as numbers, and their new ones; the levels that ramps move; a voice with new outputs, and one moved; the turn of a
--- stopped voice; that of a running one; the turn.
+-- In order: the poles' last outputs as numbers, and their new ones; the levels that ramps move; a voice with new outputs, and one moved; the
+-- turn of a stopped voice; that of a running one; the turn.
 -- Every rule reads the registers as they stood when the turn began. Assumes nothing.
 use Prim.Native.Nat.{ℕ, _-_}
 use mathlib.Core.Bool.{cond}
