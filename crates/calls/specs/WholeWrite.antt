@@ -1,4 +1,4 @@
--- The calls by which a plain host writes one register of a voice whole. What they leave is proofs/Writes. Assumes nothing.
+-- The calls by which a plain host writes one register of a voice whole. What they leave is proofs/WholeWrite. Assumes nothing.
 use mathlib.Core.List.{List, [], _∷_}
 use Prim.Native.Nat.{ℕ, _+_, _*_}
 use Rattle.registers.specs.Registers.{byteOf}

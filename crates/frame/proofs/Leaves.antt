@@ -1,7 +1,8 @@
 -- What a turn, the turns and the closing leave, voice by voice and word by word; and what is put out.
 -- In order: what a turn does with a voice's words (`wordsAfter`), and what it adds to each sum (`portion`, `share`); the parts of a turn
 -- (`added-…`); the turn (`turn-word`, `turn-vector`, `turn-sum`, `turn-same`, `turn-other`); the turns of voices 0 to k - 1 (`shares`, `Turned`,
--- `slow-stays`, `turned`, `all-turned`), which do not say what becomes of the vector; the closing (`silenced-…`, `closed-…`, `sound-closed`); both (`closed-stays`); the output (`heard-…`).
+-- `slow-stays`, `turned`, `all-turned`), which do not say what becomes of the vector; the closing (`silenced-…`, `closed-…`,
+-- `sound-closed`); both (`closed-stays`); the output (`heard-…`).
 -- That a turn and the turns keep a record valid is Keeps, and what one voice's turn does to its own registers is the crate `voice`.
 -- Assumes nothing.
 use mathlib.Core.Path.{_≡_, refl, sym, ap, _∙_}

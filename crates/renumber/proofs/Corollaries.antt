@@ -1,7 +1,7 @@
 -- What follows for a plain host, whose calls are those of a score: played on other voices the score sounds the same, and so it does when two
 -- voices are written in the other order.
 -- In order: a trace's parts put together; the calls of writes; a score is a trace; scores that are alike; the two corollaries. The record
--- that the calls of one write leave is `calls/proofs/Writes`. Assumes nothing.
+-- that the calls of one write leave is `calls/proofs/WholeWrite`. Assumes nothing.
 use mathlib.Core.Path.{_≡_, refl, sym, ap, subst, _∙_}
 use mathlib.Core.Logic.{_≢_}
 use mathlib.Core.Bool.{true}

@@ -1,6 +1,6 @@
 -- The calls of a plain host. Before each frame it writes whole registers of voices, each after its page; then it runs the frame.
 -- In order: the calls of writes; a score and its calls; the score on other voices; what a score may hold. The calls of one write are
--- `calls/specs/Writes`. Assumes nothing.
+-- `calls/specs/WholeWrite`. Assumes nothing.
 use mathlib.Core.List.{List, [], _∷_, _++_, map}
 use Prim.Native.Nat.{ℕ, _^_, _<_, _≤_}
 use lib.IntN.{pos}
