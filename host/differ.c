@@ -16,6 +16,7 @@
 #define LAST_SEED    1000u
 #define LEAST_BYTES  10000000u
 #define LEAST_FRAMES 200000u
+#define LEAST_FEW    1000u /* for each count of voices */
 
 static void run_seed(uint64_t seed)
 {
@@ -29,6 +30,21 @@ static void run_seed(uint64_t seed)
 static uint64_t number(int words, char **word, int place, uint64_t otherwise)
 {
     return words > place ? strtoull(word[place], NULL, 10) : otherwise;
+}
+
+/* Whether each count of voices, from one that a frame refuses to the first that
+   it takes, was met often enough. */
+static int few_enough(const struct pair_counts *n)
+{
+    int enough = 1;
+
+    printf("differ: frames refused of 1 to 4 voices, and done of 5:");
+    for (uint32_t active = 0; active <= LEAST_ACTV; active++) {
+        printf(" %lu", n->few[active]);
+        enough = enough && n->few[active] >= LEAST_FEW;
+    }
+    printf("\n");
+    return enough;
 }
 
 int main(int words, char **word)
@@ -50,7 +66,8 @@ int main(int words, char **word)
     printf("differ: %s agrees with the reference: %lu byte calls, %lu frames, "
            "%lu refusals, %lu samples and codes\n",
            engine->name, n->bytes, n->frames, n->refusals, n->codes);
-    if (words == 1 && (n->bytes < LEAST_BYTES || n->frames < LEAST_FRAMES)) {
+    if (words == 1 && (n->bytes < LEAST_BYTES || n->frames < LEAST_FRAMES ||
+                       !few_enough(n))) {
         printf("differ: that is too little\n");
         return 1;
     }

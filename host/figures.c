@@ -724,6 +724,47 @@ static void refused_arguments(void)
     check("longest memory", frame(whole, 8388608), 0);
 }
 
+/* A frame of fewer than five voices is refused: after the record is asked, and
+   before the memory and the output are. */
+static void few_voices(void)
+{
+    uint32_t last;
+
+    for (last = 0; last < 4; last++) {
+        fresh();
+        W(0, 0) = 0x0300u;
+        check_at("few voices written", last, 0, put(47, last), 0);
+        check_at("few voices", last, 0, rec[643], last);
+        refused_frame("few voices, a frame", 663, 16, 12, 7);
+        refused_frame("few voices, longest memory", 663, 8388608, 12, 7);
+        refused_frame("few voices, memory too long", 663, 8388609, 12, 7);
+        refused_frame("few voices, output short", 663, 16, 11, 7);
+        refused_frame("few voices, memory and output", 663, 8388609, 0, 7);
+        refused_bytes("few voices, address and pot", 663, 64, 1024, 3, 4);
+        refused_frame("few voices, length 662", 662, 8388609, 11, 1);
+        rec[640] = 200;
+        refused_frame("few voices, invalid record", 663, 8388609, 11, 2);
+    }
+}
+
+/* Five voices are enough, and all other calls take fewer. */
+static void five_voices(void)
+{
+    fresh();
+    W(0, 1) = 0x0400u;
+    W(0, 12) = 0xFFFFFF80u;
+    W(0, 0) = 0x0300u;
+    check("ACTV below 4 is taken", put(47, 3), 0);
+    refused_frame("four voices", 663, 16, 12, 7);
+    check("ACTV is read", get_register(11), 3);
+    check("pot, four voices", reference_set_pot(rec, 663, 5), 0);
+    check("ACTV 4 is taken", put(47, 4), 0);
+    check("five voices", frame(loud, 16), 0);
+    check("five voices, a step", W(0, 13), 0x0400);
+    check("five voices, memory too long",
+          reference_frame(rec, 663, whole, 8388609, out, 11), 5);
+}
+
 /* ==== registers by byte =================================================== */
 
 /* Word and readability of a register; 663 where there is no word. */
@@ -1449,8 +1490,9 @@ static void (*const groups[])(void) = {
     figure_1_and_2, figure_3, figure_4, figure_5, figure_6, figure_7,
     figure_8, figure_9, figure_10, figure_11, figure_12, compressed_samples,
     rounding, reset, validity, valid_vectors, valid_latches_and_signs,
-    refusals, refused_arguments, register_map, latches, shared_latch,
-    channels_by_byte, taken_values, vector_and_flags, odd_registers, sample,
+    refusals, refused_arguments, few_voices, five_voices, register_map,
+    latches, shared_latch, channels_by_byte, taken_values,
+    vector_and_flags, odd_registers, sample,
     bank_ends, filters, pole_edges, volume, what_sounds, written_sums,
     address, address_rest, ramps, slow_ramps, values_before_ramps, events,
     waiting_interrupts, idle_frames,

@@ -258,6 +258,16 @@ uint32_t pair_set_pot(size_t words, uint32_t pot)
     return compare("set_pot", answers);
 }
 
+/* A frame's answer, where ACTV is at the least that a frame takes or below. */
+static void count_few(uint32_t active, uint32_t answer)
+{
+    if (active <= LEAST_ACTV) {
+        pair_counts.few[active] += answer == (active < LEAST_ACTV
+                                                  ? OTTO_TOO_FEW_VOICES
+                                                  : OTTO_DONE);
+    }
+}
+
 uint32_t pair_frame(size_t words, size_t memory_words, size_t output_values)
 {
     uint32_t answers[2];
@@ -268,6 +278,7 @@ uint32_t pair_frame(size_t words, size_t memory_words, size_t output_values)
             memory_words, lents[i].output - output_values, output_values);
     }
     pair_counts.frames += answers[0] == OTTO_DONE;
+    count_few(pair_word(WORD_ACTV), answers[0]);
     return compare("frame", answers);
 }
 

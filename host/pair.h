@@ -10,6 +10,7 @@
 #include <stdint.h>
 
 #include "engines.h"
+#include "reference.h"
 
 /* Lengths that can be lent are at most these. */
 #define MOST_RECORD 704u
@@ -21,6 +22,8 @@ struct pair_counts {
     unsigned long bytes;    /* byte calls, refused or not */
     unsigned long frames;   /* frames that were done */
     unsigned long refusals; /* of every kind */
+    unsigned long few[LEAST_ACTV + 1]; /* frames of 1 to 4 voices that were
+                                          refused for that; of 5, done */
     unsigned long codes;    /* samples compressed and codes expanded */
 };
 

@@ -624,6 +624,9 @@ uint32_t reference_frame(uint32_t *record, size_t words,
     if (answer != ANSWER_DONE) {
         return answer;
     }
+    if (record[WORD_ACTV] < LEAST_ACTV) {
+        return ANSWER_TOO_FEW_VOICES;
+    }
     if (memory_words > MOST_MEMORY_WORDS) {
         return ANSWER_MEMORY_LENGTH;
     }

@@ -20,6 +20,7 @@
 #define ANSWER_POT            4u
 #define ANSWER_MEMORY_LENGTH  5u
 #define ANSWER_OUTPUT_LENGTH  6u
+#define ANSWER_TOO_FEW_VOICES 7u
 
 /* ---- limits ------------------------------------------------------------- */
 
@@ -32,6 +33,7 @@
 #define ADDRESS_LIMIT     63u
 #define POT_LIMIT         1023u
 #define NO_INTERRUPT      128u
+#define LEAST_ACTV        4u /* that a frame takes: five voices */
 
 /* ---- the record: words of a voice, counted from the voice's first word -- */
 

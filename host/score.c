@@ -341,15 +341,20 @@ static void play_stops(void)
     get_register(IRQV);
 }
 
-/* Fewer voices, and then all again. */
+/* Five voices; one to four, of which no frame is played, and five again, which
+   go on where they were; then all. */
 static void play_fewer(void)
 {
+    uint32_t last;
+
     turn_to(0);
-    put_register(ACTV, 4);
+    put_register(ACTV, LEAST_ACTV);
     frames(12);
-    put_register(ACTV, 0);
-    frames(4);
-    put_register(ACTV, 31);
+    for (last = 0; last <= LEAST_ACTV; last++) {
+        put_register(ACTV, last);
+        frames(2);
+    }
+    put_register(ACTV, VOICES - 1);
     frames(4);
 }
 

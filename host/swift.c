@@ -493,6 +493,9 @@ static uint32_t frame(uint32_t *record, size_t words, const uint16_t *memory,
     if (answer != ANSWER_DONE) {
         return answer;
     }
+    if (record[WORD_ACTV] < LEAST_ACTV) {
+        return ANSWER_TOO_FEW_VOICES;
+    }
     if (memory_words > MOST_MEMORY_WORDS) {
         return ANSWER_MEMORY_LENGTH;
     }

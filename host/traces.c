@@ -195,6 +195,24 @@ static void walk_damage(void)
     pair_poke(WORD_IRQV, NO_INTERRUPT);
 }
 
+/* Each count of voices, with memory and output that are refused and that are
+   not; and a record that is refused before its voices are counted. */
+static void walk_voices(void)
+{
+    for (uint32_t last = 0; last < VOICES; last++) {
+        set_all_voices();
+        for (size_t i = 0; i < COUNT(memory_lengths); i++) {
+            pair_poke(WORD_ACTV, last);
+            (void)pair_frame(WORDS, memory_lengths[i], OTTO_OUTPUT_VALUES);
+            (void)pair_frame(WORDS, memory_lengths[i], 11);
+        }
+        each_call(WORDS - 1);
+        pair_poke(WORD_PAGE, 128);
+        each_call(WORDS);
+        pair_poke(WORD_PAGE, 0);
+    }
+}
+
 /* Each address on each page, written and read whole, with an interrupt that
    waits on some pages. */
 static void walk_registers(void)
@@ -236,6 +254,7 @@ static void set_step(uint32_t v, uint32_t cr, uint32_t at)
 /* Each of CR's low eight bits, at each edge: on it, one short, one past. */
 static void walk_loops(void)
 {
+    pair_poke(WORD_ACTV, VOICES - 1);
     for (uint32_t cr = 0; cr < 256; cr++) {
         for (uint32_t at = 0; at < 300;) {
             for (uint32_t v = 0; v < VOICES; v++, at++) {
@@ -250,6 +269,7 @@ static void walk_loops(void)
 /* Each bank's first and last words, with memory that ends about there. */
 static void walk_banks(void)
 {
+    pair_poke(WORD_ACTV, VOICES - 1);
     for (size_t i = 0; i < COUNT(memory_lengths); i++) {
         for (uint32_t v = 0; v < VOICES; v++) {
             uint32_t first = v * VOICE_WORDS;
@@ -272,6 +292,7 @@ void trace_walks(void)
         walk_lengths();
         walk_limits();
         walk_damage();
+        walk_voices();
         walk_registers();
         walk_loops();
         walk_banks();
@@ -332,6 +353,24 @@ static void damage(void)
     pair_poke(word, old);
 }
 
+/* As many voices as the calls before left active, or enough for a frame. */
+static void enough_voices(void)
+{
+    if (pair_word(WORD_ACTV) < LEAST_ACTV) {
+        pair_poke(WORD_ACTV, LEAST_ACTV + random_below(VOICES - LEAST_ACTV));
+    }
+}
+
+/* Now and then one to five voices, of which all but five are too few. */
+static void some_voices(void)
+{
+    if (random_once_in(8)) {
+        pair_poke(WORD_ACTV, random_below(LEAST_ACTV + 1));
+    } else {
+        enough_voices();
+    }
+}
+
 static void frames(uint32_t count)
 {
     while (count > 0) {
@@ -369,6 +408,7 @@ void trace_random(uint64_t seed)
         bytes();
         if (random_once_in(20)) {
             set_voice(random_below(VOICES));
+            some_voices();
             frames(random_below(4));
         }
         if (random_once_in(5)) {
@@ -376,5 +416,6 @@ void trace_random(uint64_t seed)
         }
     }
     set_all_voices();
-    frames(random_once_in(20) ? LONG_RUN : 20);
+    enough_voices();
+    frames(seed % 16 == 0 ? LONG_RUN : 20);
 }

@@ -13,8 +13,9 @@
  * 0. Buffers of one call must not overlap.
  *
  * A call on a record answers 0 or the number of its refusal. It asks in the
- * order of the numbers, and a refused call changes no word of the record and
- * no value of the output; a refused otto_read sets its byte to 0.
+ * order in which its refusals are listed below, and a refused call changes no
+ * word of the record and no value of the output; a refused otto_read sets its
+ * byte to 0.
  */
 #ifndef OTTO_H
 #define OTTO_H
@@ -41,6 +42,7 @@ extern "C" {
 #define OTTO_POT            4u /* the pot result is above 1023 */
 #define OTTO_MEMORY_LENGTH  5u /* sample memory is longer than four banks */
 #define OTTO_OUTPUT_LENGTH  6u /* the output is not 12 values */
+#define OTTO_TOO_FEW_VOICES 7u /* ACTV is below 4: fewer than five voices */
 
 /* ---- the machine --------------------------------------------------------- */
 
@@ -85,9 +87,11 @@ uint32_t otto_set_pot(uint32_t *record, size_t words, uint32_t pot);
 /*
  * Runs one frame: a turn of each active voice. output takes twelve values of
  * 20 bits, -524288 to 524287, in channel order, left before right. A voice
- * that reads beyond the lent memory reads 0.
+ * that reads beyond the lent memory reads 0. At least five voices must be
+ * active, so ACTV, which names the last of them, at least 4; smaller values can
+ * be written, and any call but this one takes a record that has one.
  *
- * Refusals: 1, 2, 5, 6.
+ * Refusals: 1, 2, 7, 5, 6.
  */
 uint32_t otto_frame(uint32_t *record, size_t words, const uint16_t *memory,
                     size_t memory_words, int32_t *output,

@@ -7,7 +7,7 @@ use types.Run.{OneOf, miss}
 use denote.Enum.Declared.{tagOf}
 use Rattle.answer.specs.Answer.{isDone, firstRefusal}
 use Rattle.answer.specs.declared.Answer.{Answer}
-use Rattle.answer.specs.declared.Answer.the-variants.{Done, RecordLength, RecordInvalid, Address, Pot, MemoryLength, OutputLength}
+use Rattle.answer.specs.declared.Answer.the-variants.{Done, RecordLength, RecordInvalid, Address, Pot, MemoryLength, OutputLength, TooFewVoices}
 use Rattle.answer.proofs.Answer.{the-type}
 
 pub is-done : (a : Answer) → isDone a ≡ true → a ≡ Done
@@ -18,16 +18,18 @@ is-done Address h = absurd (false≢true h)
 is-done Pot h = absurd (false≢true h)
 is-done MemoryLength h = absurd (false≢true h)
 is-done OutputLength h = absurd (false≢true h)
+is-done TooFewVoices h = absurd (false≢true h)
 
 -- the `else` of a `let Answer::Done = a else` knows that the answer's case is one of the others
-pub is-refusal : (a : Answer) → OneOf (1 ∷ 2 ∷ 3 ∷ 4 ∷ 5 ∷ 6 ∷ []) (tagOf the-type a) → isDone a ≡ false
-is-refusal Done h = absurd (miss (1 ∷ 2 ∷ 3 ∷ 4 ∷ 5 ∷ 6 ∷ []) 0 tt h)
+pub is-refusal : (a : Answer) → OneOf (1 ∷ 2 ∷ 3 ∷ 4 ∷ 5 ∷ 6 ∷ 7 ∷ []) (tagOf the-type a) → isDone a ≡ false
+is-refusal Done h = absurd (miss (1 ∷ 2 ∷ 3 ∷ 4 ∷ 5 ∷ 6 ∷ 7 ∷ []) 0 tt h)
 is-refusal RecordLength h = refl
 is-refusal RecordInvalid h = refl
 is-refusal Address h = refl
 is-refusal Pot h = refl
 is-refusal MemoryLength h = refl
 is-refusal OutputLength h = refl
+is-refusal TooFewVoices h = refl
 
 -- ---- a call's tests
 

@@ -3,7 +3,7 @@ use Prim.Native.Nat.{ℕ}
 use mathlib.Core.Bool.{Bool, true, false, cond}
 use mathlib.Core.List.{List, [], _∷_}
 use Rattle.answer.specs.declared.Answer.{Answer}
-use Rattle.answer.specs.declared.Answer.the-variants.{Done, RecordLength, RecordInvalid, Address, Pot, MemoryLength, OutputLength}
+use Rattle.answer.specs.declared.Answer.the-variants.{Done, RecordLength, RecordInvalid, Address, Pot, MemoryLength, OutputLength, TooFewVoices}
 
 abbrev pub answerNumber : Answer → ℕ
 answerNumber Done = 0
@@ -13,6 +13,7 @@ answerNumber Address = 3
 answerNumber Pot = 4
 answerNumber MemoryLength = 5
 answerNumber OutputLength = 6
+answerNumber TooFewVoices = 7
 
 abbrev pub isDone : Answer → Bool
 isDone Done = true
@@ -22,6 +23,7 @@ isDone Address = false
 isDone Pot = false
 isDone MemoryLength = false
 isDone OutputLength = false
+isDone TooFewVoices = false
 
 -- The tests that a call makes, in its order, each with the answer where it holds: the first that holds decides, and where none does the
 -- call is done.

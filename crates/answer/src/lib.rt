@@ -16,6 +16,8 @@ pub enum Answer {
     MemoryLength,
     // An output that is not twelve values.
     OutputLength,
+    // Fewer active voices than a frame is run with.
+    TooFewVoices,
 }
 
 // The answer's number, for hosts.
@@ -30,5 +32,6 @@ pub fn number(a: Answer) -> u32
         Answer::Pot => 4,
         Answer::MemoryLength => 5,
         Answer::OutputLength => 6,
+        Answer::TooFewVoices => 7,
     }
 }

@@ -2,7 +2,7 @@
 -- In order: a voice added to its channel; the interrupt step; one turn; the turns; the closing; the call. Assumes nothing.
 use mathlib.Core.Path.{_≡_}
 use Prim.Native.Nat.{ℕ, zero, suc, _+_, _*_, _%_}
-use mathlib.Core.Bool.{cond, not, _&&_}
+use mathlib.Core.Bool.{Bool, cond, not, _&&_}
 use mathlib.Core.List.{List, [], _∷_, _++_, map}
 use lib.Dec.{eqb, ltb}
 use lib.IntN.{ℤ}
@@ -10,7 +10,7 @@ use lib.ListN.{length, getD, set, take, drop, replicate}
 use Rattle.numbers.specs.Numbers.{word}
 use Rattle.answer.specs.Answer.{isDone, firstRefusal}
 use Rattle.answer.specs.declared.Answer.{Answer}
-use Rattle.answer.specs.declared.Answer.the-variants.{RecordLength, RecordInvalid, MemoryLength, OutputLength}
+use Rattle.answer.specs.declared.Answer.the-variants.{RecordLength, RecordInvalid, TooFewVoices, MemoryLength, OutputLength}
 use Rattle.control.specs.Control.{flagOf, channelOf, IRQ}
 use Rattle.channel.specs.Channel.{mixed, putOut}
 use Rattle.machine.specs.Words.{IRQV, ACTV, SLOW, SUMS, OUTPUT_VALUES, NO_INTERRUPT}
@@ -69,11 +69,16 @@ closed m = let s = silenced m in set s SLOW ((getD s SLOW 0 + 1) % 8)
 unfoldable pub played : List ℕ → List ℕ → List ℕ
 played memory m = turns memory (getD m ACTV 0 + 1) m
 
+-- fewer than five voices are active
+abbrev pub tooFew : List ℕ → Bool
+tooFew m = ltb (getD m ACTV 0) 4
+
 unfoldable pub frameAnswer : List ℕ → List ℕ → List ℤ → Answer
 frameAnswer m memory out =
     firstRefusal
     ((wrongLength m, RecordLength)
     ∷ (notValid m, RecordInvalid)
+    ∷ (tooFew m, TooFewVoices)
     ∷ (ltb MOST_MEMORY_WORDS (length memory), MemoryLength)
     ∷ (not (eqb (length out) OUTPUT_VALUES), OutputLength)
     ∷ [])

@@ -13,6 +13,9 @@ ghost use Rattle.sample.specs.Lasts.{Lasts};
 ghost use Rattle.frame.specs.Frame.{addedTo, added, signalled, turnAt, played, heard, closed, frameAnswer, Frames};
 use answer::Answer;
 
+// The least ACTV that a frame takes: five active voices.
+const LEAST_ACTV: u32 = 4;
+
 // One frame: twelve values in channel order, left before right.
 pub fn frame(m: &mut [u32], memory: &[u16], out: &mut [i32]) -> Answer
     ensures { λ r. ⌜ Frames (now (m .entry)) (now (memory .entry)) (now (out .entry)) r (now (m .exit)) (now (out .exit)) ⌝ }
@@ -26,7 +29,7 @@ pub fn frame(m: &mut [u32], memory: &[u16], out: &mut [i32]) -> Answer
     Answer::Done
 }
 
-// Why a frame is refused: the record asked first, then the memory, then the output; Done where it is not.
+// Why a frame is refused: the record asked first, then how many voices it has active, the memory, and the output; Done where it is not.
 fn refusal(m: &[u32], memory: &[u16], out: &[i32]) -> Answer
     ensures { λ r. ⌜ r ≡ frameAnswer (now (m .entry)) (now (memory .entry)) (now (out .entry)) ⌝ }
 {
@@ -34,6 +37,9 @@ fn refusal(m: &[u32], memory: &[u16], out: &[i32]) -> Answer
     let Answer::Done = a else {
         return a;
     };
+    if m[machine::ACTV] < LEAST_ACTV {
+        return Answer::TooFewVoices;
+    }
     if sample::MOST_MEMORY_WORDS < memory.len() {
         return Answer::MemoryLength;
     }

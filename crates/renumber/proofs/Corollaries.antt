@@ -4,12 +4,12 @@
 -- that the calls of one write leave is `calls/proofs/WholeWrite`. Assumes nothing.
 use mathlib.Core.Path.{_≡_, refl, sym, ap, subst, _∙_}
 use mathlib.Core.Logic.{_≢_}
-use mathlib.Core.Bool.{true}
+use mathlib.Core.Bool.{true, false}
 use mathlib.Core.List.{List, [], _∷_, _++_, map}
 use Prim.Native.Nat.{ℕ, _+_, _*_, _≤_}
 use native.Mathlib.Decide.{ℕ-discrete}
 use native.Mathlib.Omega.{arith}
-use lib.Dec.{lit<}
+use lib.Dec.{lit<, lit≤}
 use lib.IntN.{ℤ, pos}
 use lib.ListN.{length, getD, replicate}
 use borrow.Author.Tests.{eq-eqb, ne-eqb}
@@ -22,10 +22,11 @@ use Rattle.registers.specs.Access.{writeRecord}
 use Rattle.registers.specs.Named.{pageFor, registerFor}
 use Rattle.registers.proofs.Named.{page-lt, register-lt, named}
 use Rattle.registers.proofs.Writing.{byte-small, four-bytes, page-after}
+use Rattle.frame.specs.Frame.{tooFew}
 use Rattle.frame.proofs.Answered.{not-refused-frame}
 use Rattle.calls.specs.Calls.{Call, Frame, answerTo, after, run, outputs}
 use Rattle.calls.specs.WholeWrite.{writeCalls}
-use Rattle.calls.proofs.Runs.{frame-sound}
+use Rattle.calls.proofs.Runs.{frame-sound, frame-word}
 use Rattle.renumber.specs.Demand.{Renumbering, Match, Put, ofVoice, Phase, idle, Between, nothing, reading, potting, refused, paging, first, next, last}
 use Rattle.renumber.specs.Demand.{Log, End, Then, Trace, stop, go-on, SameWrites, Alike}
 use Rattle.renumber.specs.Score.{writes, allWrites, Step, callsOf, putOn, stepOn, Fits, AllFit, Playable}
@@ -49,15 +50,17 @@ one-after-other (last b hb d) e = last b hb (one-after-other d e)
 
 -- calls, then a frame that is lent what it asks for, then a trace on the machine that it leaves: together they are a trace
 pub one-frame-more : {m : List ℕ} {φ ψ : Phase} {t u : List Call} {ps : List Put} {l : Log} (memory : List ℕ) (out : List ℤ) → length memory ≤ MOST_MEMORY_WORDS → length out ≡ 12
-    → Sound m → In m φ → Between m φ t ps ψ
-    → (Sound (after (run m t) (Frame memory out)) → In (after (run m t) (Frame memory out)) ψ → Trace (after (run m t) (Frame memory out)) ψ u l)
+    → Sound m → tooFew m ≡ false → In m φ → Between m φ t ps ψ
+    → (let n = after (run m t) (Frame memory out) in Sound n → tooFew n ≡ false → In n ψ → Trace n ψ u l)
     → Trace m φ (t ++ Frame memory out ∷ u) (Then ps memory l)
 unfolding answerTo
-one-frame-more {m} {ψ = ψ} {t = t} memory out h k s i d f =
+one-frame-more {m} {ψ = ψ} {t = t} memory out h k s v i d f =
     let r = stretch s i d in
     let s₁ = r .moved .sound in
-    let a = not-refused-frame (run m t) memory out s₁ h k in
-    go-on memory out d a (f (frame-sound (run m t) memory out s₁) (over-frame ψ memory out s₁ (r .phase)))
+    let v₁ : tooFew (run m t) ≡ false = rw (r .moved .active) v in
+    let v₂ : tooFew (after (run m t) (Frame memory out)) ≡ false = rw (frame-word (run m t) memory out s₁ ACTV (lit≤ tt) (lit< tt) (λ e. omega arith) (λ e. omega arith)) v₁ in
+    let a = not-refused-frame (run m t) memory out (record { sound = s₁; voices = v₁; samples = h; values = k }) in
+    go-on memory out d a (f (frame-sound (run m t) memory out s₁) v₂ (over-frame ψ memory out s₁ (r .phase)))
 
 -- ---- the calls of writes
 
@@ -91,10 +94,10 @@ unfoldable pub logOf : List Step → Log
 logOf [] = End []
 logOf (f ∷ fs) = Then (f .puts) (f .memory) (logOf fs)
 
-pub score-trace : {m : List ℕ} (fs : List Step) → Sound m → Playable fs → Trace m idle (callsOf fs) (logOf fs)
+pub score-trace : {m : List ℕ} (fs : List Step) → Sound m → tooFew m ≡ false → Playable fs → Trace m idle (callsOf fs) (logOf fs)
 unfolding callsOf logOf
-score-trace [] s h = stop nothing
-score-trace (f ∷ fs) s h = one-frame-more (f .memory) (replicate 12 (pos 0)) (h .1) refl s tt (all-writes (f .puts) s (h .0)) (λ s₁ _. score-trace fs s₁ (h .2))
+score-trace [] s v h = stop nothing
+score-trace (f ∷ fs) s v h = one-frame-more (f .memory) (replicate 12 (pos 0)) (h .1) refl s v tt (all-writes (f .puts) s (h .0)) (λ s₁ v₁ _. score-trace fs s₁ v₁ (h .2))
 
 -- ---- scores that are alike
 
@@ -126,13 +129,14 @@ module _ (s : ℕ → ℕ) (active : ℕ) (R : Renumbering active s) where
 
 -- ---- the corollaries
 
--- A score played on other voices sounds the same, and leaves each voice as it would have left the other.
-pub on-other-voices : (s : ℕ → ℕ) (m n : List ℕ) → valid m ≡ true → valid n ≡ true → Renumbering (getD m ACTV 0) s → Match s m n
+-- A score played on other voices sounds the same, and leaves each voice as it would have left the other. Five voices or more are active, so
+-- that no frame is refused; no score writes ACTV.
+pub on-other-voices : (s : ℕ → ℕ) (m n : List ℕ) → valid m ≡ true → valid n ≡ true → tooFew m ≡ false → Renumbering (getD m ACTV 0) s → Match s m n
     → (fs : List Step) → Playable fs
     → (outputs m (callsOf fs) ≡ outputs n (callsOf (map (stepOn s) fs))) × Match s (run m (callsOf fs)) (run n (callsOf (map (stepOn s) fs)))
-on-other-voices s m n vm vn R M fs h =
+on-other-voices s m n vm vn v R M fs h =
     let r = inaudible s m n vm vn R M (callsOf fs) (callsOf (map (stepOn s) fs)) (logOf fs) (logOf (map (stepOn s) fs))
-    (score-trace fs (sound m vm) h) (score-trace (map (stepOn s) fs) (sound n vn) (playable-on s (getD m ACTV 0) R fs h))
+    (score-trace fs (sound m vm) v h) (score-trace (map (stepOn s) fs) (sound n vn) (rw (← M .active) v) (playable-on s (getD m ACTV 0) R fs h))
     (score-on s (getD m ACTV 0) R fs h) in
     (r .1, r .2)
 
@@ -153,15 +157,15 @@ unfolding itself
 matches-itself m = record { voices = λ v h. same-equal refl; active = refl; slow = refl; sums = λ c h. refl }
 
 -- Two voices may be written in either order.
-pub in-either-order : (m : List ℕ) → valid m ≡ true → (p q : Put) → p .voice ≢ q .voice → Fits p → Fits q → (memory : List ℕ) → length memory ≤ MOST_MEMORY_WORDS
+pub in-either-order : (m : List ℕ) → valid m ≡ true → tooFew m ≡ false → (p q : Put) → p .voice ≢ q .voice → Fits p → Fits q → (memory : List ℕ) → length memory ≤ MOST_MEMORY_WORDS
     → (fs : List Step) → Playable fs
     → outputs m (callsOf (record { puts = p ∷ q ∷ []; memory = memory } ∷ fs)) ≡ outputs m (callsOf (record { puts = q ∷ p ∷ []; memory = memory } ∷ fs))
 unfolding logOf itself
-in-either-order m vm p q d hp hq memory l fs h =
+in-either-order m vm v p q d hp hq memory l fs h =
     let a : List Step = record { puts = p ∷ q ∷ []; memory = memory } ∷ fs in
     let b : List Step = record { puts = q ∷ p ∷ []; memory = memory } ∷ fs in
     inaudible itself m m vm vm (nothing-renumbered (getD m ACTV 0)) (matches-itself m) (callsOf a) (callsOf b) (logOf a) (logOf b)
-    (score-trace a (sound m vm) ((hp, (hq, tt)), l, h)) (score-trace b (sound m vm) ((hq, (hp, tt)), l, h)) (either, refl, score-itself fs) .1
+    (score-trace a (sound m vm) v ((hp, (hq, tt)), l, h)) (score-trace b (sound m vm) v ((hq, (hp, tt)), l, h)) (either, refl, score-itself fs) .1
   where
     either : SameWrites itself (p ∷ q ∷ []) (q ∷ p ∷ [])
     either v h = at (ℕ-discrete v (p .voice)) (ℕ-discrete v (q .voice))

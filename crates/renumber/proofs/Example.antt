@@ -4,7 +4,7 @@
 -- In order: the machines; voices 3 and 5 exchanged; the machines match; two traces; the theorem at them. Assumes nothing.
 use mathlib.Core.Path.{_≡_, refl, sym, ap, _∙_}
 use mathlib.Core.Logic.{_≢_}
-use mathlib.Core.Bool.{true, cond}
+use mathlib.Core.Bool.{true, false, cond}
 use mathlib.Core.List.{List, [], _∷_, _++_}
 use Prim.Native.Nat.{ℕ, zero, suc, _+_, _*_, _%_, _≤_, _<_}
 use native.Mathlib.Decide.{ℕ-discrete}
@@ -24,6 +24,7 @@ use Rattle.machine.proofs.Fresh.{fresh-length, fresh-at}
 use Rattle.machine.proofs.Valid.{Sound, sound}
 use Rattle.registers.specs.Registers.{registerOf, lowPage}
 use Rattle.registers.proofs.Laws.{far-refused}
+use Rattle.frame.specs.Frame.{tooFew}
 use Rattle.calls.specs.Calls.{Call, Write, Read, SetPot, Frame, answerTo, run, outputs}
 use Rattle.renumber.specs.Demand.{Renumbering, SameVoice, Match, Put, ofVoice, idle, begun, Between, nothing, reading, potting, refused, paging, first, next, last}
 use Rattle.renumber.specs.Demand.{Log, End, Then, Trace, stop, SameWrites}
@@ -56,6 +57,15 @@ one-valid = refl
 other-valid : valid other ≡ true
 unfolding other machine note putVoice fresh wordsFrom resetWord valid cutTo cut bitsOf sharedBits isVector
 other-valid = refl
+
+-- all voices are active, as a reset leaves them
+one-all : tooFew one ≡ false
+unfolding one machine note putVoice fresh wordsFrom resetWord
+one-all = refl
+
+other-all : tooFew other ≡ false
+unfolding other machine note putVoice fresh wordsFrom resetWord
+other-all = refl
 
 -- ---- voices 3 and 5 exchanged
 
@@ -221,13 +231,13 @@ module _ (out out′ : List ℤ) (long : length out ≡ 12) (long′ : length ou
 
   trace : Trace one idle calls (log (volume 3 ∷ stopped ∷ []))
   unfolding calls log memory
-  trace = one-frame-more memory out (omega arith) long (sound one one-valid) tt begins
-      (λ s i. one-frame-more memory out (omega arith) long s i (finishes s i) (λ _ _. stop (reading 0 nothing)))
+  trace = one-frame-more memory out (omega arith) long (sound one one-valid) one-all tt begins
+      (λ s v i. one-frame-more memory out (omega arith) long s v i (finishes s i) (λ _ _ _. stop (reading 0 nothing)))
 
   trace′ : Trace other idle calls′ (log (stopped ∷ volume 5 ∷ []))
   unfolding calls′ log memory
-  trace′ = one-frame-more memory out′ (omega arith) long′ (sound other other-valid) tt nothing
-      (λ s i. one-frame-more memory out′ (omega arith) long′ s i (both-whole s) (λ _ _. stop nothing))
+  trace′ = one-frame-more memory out′ (omega arith) long′ (sound other other-valid) other-all tt nothing
+      (λ s v i. one-frame-more memory out′ (omega arith) long′ s v i (both-whole s) (λ _ _ _. stop nothing))
 
   -- ---- the theorem at them
 

@@ -35,17 +35,17 @@ frame x = Frame (x ∷ x ∷ []) (replicate 12 (pos 0))
 unfoldable pub loudness : List ℤ → ℕ
 loudness out = natAbs (getD out 0 (pos 0))
 
--- ACTV is written, to 0: page 0 is set, and then register 11
+-- ACTV is written, to 4: page 0 is set, and then register 11
 unfoldable pub silence : List Call
-silence = Write 63 0 ∷ Write 44 0 ∷ Write 45 0 ∷ Write 46 0 ∷ Write 47 0 ∷ frame 1000 ∷ []
+silence = Write 63 0 ∷ Write 44 0 ∷ Write 45 0 ∷ Write 46 0 ∷ Write 47 4 ∷ frame 1000 ∷ []
 
 pub computed :
     (loudness (outputs one (frame 1000 ∷ [])) ≡ 15952)
     × (loudness (outputs other (frame 1000 ∷ [])) ≡ 15952)
     × (loudness (outputs other (frame 2000 ∷ [])) ≡ 31905)
     × (loudness (outputs other silence) ≡ 0)
-    × (loudness (outputs (set one ACTV 3) (frame 1000 ∷ [])) ≡ 15952)
-    × (loudness (outputs (set other ACTV 3) (frame 1000 ∷ [])) ≡ 0)
+    × (loudness (outputs (set one ACTV 4) (frame 1000 ∷ [])) ≡ 15952)
+    × (loudness (outputs (set other ACTV 4) (frame 1000 ∷ [])) ≡ 0)
     × (loudness (outputs (set other SUMS 1) (frame 1000 ∷ [])) ≡ 15953)
 unfolding frame loudness silence one other machine note putVoice voiceAt fresh wordsFrom resetWord valid cutTo cut bitsOf sharedBits isVector resetAnswer checked outputs outputFrom after byteAnswer writeRecord writtenTo stored withByte registerOf lowPage highPage sumPage frameAnswer frameRecord frameOutput played turns turnAt added addedTo signalled mixed putOut heard silenced closed wordsOf turnOf runningTurn stoppedTurn withOutputs moved rampedLevels lastOutputs sampled fetched fraction interpolated sampleOf firstAt secondAt floorDiv floorMod signed word held filtered pole3 pole4 lowPass highPass coefficient panned volumeOf mantissa exponent stepped forward reverse forwardEvent reverseEvent raised runs flagOf bitOf withBit
 computed = (refl, refl, refl, refl, refl, refl, refl)
@@ -66,9 +66,9 @@ memory-needed = differ (outputs one (frame 1000 ∷ [])) (outputs other (frame 2
 pub voices-needed : outputs one (frame 1000 ∷ []) ≢ outputs other silence
 voices-needed = differ (outputs one (frame 1000 ∷ [])) (outputs other silence) (λ e. omega (arith, computed .0, computed .3))
 
--- active voices are mapped to active voices: where voices 0 to 3 are active, voice 5 is not
-pub active-needed : outputs (set one ACTV 3) (frame 1000 ∷ []) ≢ outputs (set other ACTV 3) (frame 1000 ∷ [])
-active-needed = differ (outputs (set one ACTV 3) (frame 1000 ∷ [])) (outputs (set other ACTV 3) (frame 1000 ∷ [])) (λ e. omega (arith, computed .4, computed .5))
+-- active voices are mapped to active voices: where voices 0 to 4 are active, voice 5 is not
+pub active-needed : outputs (set one ACTV 4) (frame 1000 ∷ []) ≢ outputs (set other ACTV 4) (frame 1000 ∷ [])
+active-needed = differ (outputs (set one ACTV 4) (frame 1000 ∷ [])) (outputs (set other ACTV 4) (frame 1000 ∷ [])) (λ e. omega (arith, computed .4, computed .5))
 
 -- channel sums are equal
 pub sums-needed : outputs one (frame 1000 ∷ []) ≢ outputs (set other SUMS 1) (frame 1000 ∷ [])

@@ -1,14 +1,12 @@
 -- `frame::frame` meets its contract: refused, and done. Assumes nothing.
 use mathlib.Core.Path.{_≡_, sym, ap, subst, _∙_}
-use Prim.Native.Nat.{_≤_}
 use borrow.Author.Needs.{needs}
-use lib.ListN.{length}
 use Rattle.answer.specs.declared.Answer.the-variants.{Done}
 use Rattle.answer.proofs.Refusals.{is-refusal}
 use Rattle.machine.proofs.Valid.{Sound, is-valid}
 use Rattle.frame.specs.Frame.{closed, heard, frameAnswer}
 use Rattle.frame.proofs.Keeps.{sound-played, sum-small}
-use Rattle.frame.proofs.Answered.{done-frame, frames-refused, frames-done}
+use Rattle.frame.proofs.Answered.{Ready, done-frame, frames-refused, frames-done}
 use Rattle.frame.proofs.frame.Statement.{statement}
 use Rattle.frame.proofs.frame.Tie as tie
 
@@ -16,21 +14,21 @@ use Rattle.frame.proofs.frame.Tie as tie
 fine : (c : tie.After-enum-told) → let a = c .before .before .before .before .before .before .before .args in frameAnswer (a .m .now) (a .memory .now) (a .out .now) ≡ Done
 fine c = sym (c .before .before .refusal .ensures) ∙ c .enum-told .given .1
 
-lent : (c : tie.After-enum-told) → let a = c .before .before .before .before .before .before .before .args in Sound (a .m .now) × ((length (a .memory .now) ≤ 8388608) × (length (a .out .now) ≡ 12))
+lent : (c : tie.After-enum-told) → let a = c .before .before .before .before .before .before .before .args in Ready (a .m .now) (a .memory .now) (a .out .now)
 lent c = done-frame _ _ _ (fine c)
 
 returns : tie.Need-returns
 returns c = let r = c .before .refusal in frames-refused _ _ _ (r .result) (r .ensures) (is-refusal (r .result) (c .match .keys2))
 
 play-requires : tie.Need-play-requires
-play-requires c κs = is-valid _ (lent (c .before) .0)
+play-requires c κs = is-valid _ (lent (c .before) .sound)
 
 close-requires : tie.Need-close-requires
 close-requires c κs =
     let t = c .before .before .before .before .before .before in
     let p = c .before .before .before .before .play .ensures in
-    let s = subst Sound (sym p) (sound-played _ (lent t .0)) in
-    (s .size, (sum-small _ s, lent t .1 .1))
+    let s = subst Sound (sym p) (sound-played _ (lent t .sound)) in
+    (s .size, (sum-small _ s, lent t .values))
 
 returns-2 : tie.Need-returns-2
 returns-2 c =
