@@ -27,14 +27,6 @@ pub record Ready (m memory : List ℕ) (out : List ℤ) : Type 0 where
   pub values : length out ≡ OUTPUT_VALUES
 
 module _ (m memory : List ℕ) (out : List ℤ) where
-  -- the tests that come after those of the record: of its active voices, of the memory and of the output
-  abbrev later : List (Bool × Answer)
-  later = (tooFew m, TooFewVoices) ∷ (ltb MOST_MEMORY_WORDS (length memory), MemoryLength) ∷ (not (eqb (length out) OUTPUT_VALUES), OutputLength) ∷ []
-
-  pub refused-record : isDone (checked m) ≡ false → frameAnswer m memory out ≡ checked m
-  unfolding frameAnswer checked
-  refused-record h = refused-early ((wrongLength m, RecordLength) ∷ (notValid m, RecordInvalid) ∷ []) later h
-
   pub refused-voices : Sound m → tooFew m ≡ true → frameAnswer m memory out ≡ TooFewVoices
   unfolding frameAnswer
   refused-voices s k = let t = sound-tests m s in rw (t .0, t .1, k)
@@ -56,6 +48,14 @@ module _ (m memory : List ℕ) (out : List ℤ) where
       let t = sound-tests m (r .sound) in
       rw (t .0, t .1, r .voices, le-ltb MOST_MEMORY_WORDS (length memory) (r .samples), eq-eqb (length out) OUTPUT_VALUES (r .values))
 
+  -- the tests of the voices, the memory and the output, which come after those of the record
+  abbrev later : List (Bool × Answer)
+  later = (tooFew m, TooFewVoices) ∷ (ltb MOST_MEMORY_WORDS (length memory), MemoryLength) ∷ (not (eqb (length out) OUTPUT_VALUES), OutputLength) ∷ []
+
+  pub refused-record : isDone (checked m) ≡ false → frameAnswer m memory out ≡ checked m
+  unfolding frameAnswer checked
+  refused-record h = refused-early ((wrongLength m, RecordLength) ∷ (notValid m, RecordInvalid) ∷ []) later h
+
   -- and back: the frame is done, so no test held
   pub done-frame : frameAnswer m memory out ≡ Done → Ready m memory out
   unfolding frameAnswer
@@ -72,7 +72,7 @@ module _ (m memory : List ℕ) (out : List ℤ) where
   unfolding frameRecord frameOutput
   frames-refused a e h = let d : isDone (frameAnswer m memory out) ≡ false = sym (ap isDone e) ∙ h in record { answers = e; leaves = rw d; gives = rw d }
 
-  -- whatever memory and output a valid record of too few voices is lent with, nothing changes
+  -- a valid record of too few voices: 7, and nothing changes, whatever memory and output are lent with it
   pub frames-few : valid m ≡ true → tooFew m ≡ true → Frames m memory out TooFewVoices m out
   frames-few v k = frames-refused TooFewVoices (sym (refused-voices (sound m v) k)) refl
 
