@@ -32,18 +32,15 @@ static uint64_t number(int words, char **word, int place, uint64_t otherwise)
     return words > place ? strtoull(word[place], NULL, 10) : otherwise;
 }
 
-/* Whether each count of voices, from one that a frame refuses to the first that
-   it takes, was met often enough. */
-static int few_enough(const struct pair_counts *n)
+/* Whether frames of one to four voices, which are refused, and of five, which
+   are done, were each met often enough. */
+static int few_met(const struct pair_counts *n)
 {
     int enough = 1;
 
-    printf("differ: frames refused of 1 to 4 voices, and done of 5:");
-    for (uint32_t active = 0; active <= LEAST_ACTV; active++) {
-        printf(" %lu", n->few[active]);
-        enough = enough && n->few[active] >= LEAST_FEW;
+    for (uint32_t last = 0; last <= LEAST_ACTV; last++) {
+        enough = enough && n->few[last] >= LEAST_FEW;
     }
-    printf("\n");
     return enough;
 }
 
@@ -66,8 +63,11 @@ int main(int words, char **word)
     printf("differ: %s agrees with the reference: %lu byte calls, %lu frames, "
            "%lu refusals, %lu samples and codes\n",
            engine->name, n->bytes, n->frames, n->refusals, n->codes);
+    printf("differ: frames of 1 to 4 voices refused: %lu %lu %lu %lu, of 5 "
+           "done: %lu\n",
+           n->few[0], n->few[1], n->few[2], n->few[3], n->few[4]);
     if (words == 1 && (n->bytes < LEAST_BYTES || n->frames < LEAST_FRAMES ||
-                       !few_enough(n))) {
+                       !few_met(n))) {
         printf("differ: that is too little\n");
         return 1;
     }

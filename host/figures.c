@@ -763,6 +763,9 @@ static void five_voices(void)
     check("five voices, a step", W(0, 13), 0x0400);
     check("five voices, memory too long",
           reference_frame(rec, 663, whole, 8388609, out, 11), 5);
+    check("ACTV below 4 again", put(47, 0), 0);
+    check("reset, one voice", reference_reset(rec, 663), 0);
+    check("ACTV after a reset", rec[643], 31);
 }
 
 /* ==== registers by byte =================================================== */

@@ -258,13 +258,13 @@ uint32_t pair_set_pot(size_t words, uint32_t pot)
     return compare("set_pot", answers);
 }
 
-/* A frame's answer, where ACTV is at the least that a frame takes or below. */
-static void count_few(uint32_t active, uint32_t answer)
+/* Counts a frame of one to four voices that is refused for that, and one of
+   five that is done; last is the number of the last active voice. */
+static void count_few(uint32_t last, uint32_t answer)
 {
-    if (active <= LEAST_ACTV) {
-        pair_counts.few[active] += answer == (active < LEAST_ACTV
-                                                  ? OTTO_TOO_FEW_VOICES
-                                                  : OTTO_DONE);
+    if (last <= LEAST_ACTV) {
+        pair_counts.few[last] +=
+            answer == (last < LEAST_ACTV ? OTTO_TOO_FEW_VOICES : OTTO_DONE);
     }
 }
 

@@ -352,7 +352,7 @@ static void play_fewer(void)
     frames(12);
     for (last = 0; last <= LEAST_ACTV; last++) {
         put_register(ACTV, last);
-        frames(2);
+        frames(1);
     }
     put_register(ACTV, VOICES - 1);
     frames(4);

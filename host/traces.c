@@ -417,5 +417,6 @@ void trace_random(uint64_t seed)
     }
     set_all_voices();
     enough_voices();
-    frames(seed % 16 == 0 ? LONG_RUN : 20);
+    /* Each 17th trace is long, so that long ones have all four alignments. */
+    frames(seed % 17 == 0 ? LONG_RUN : 20);
 }

@@ -16,7 +16,7 @@ pub enum Answer {
     MemoryLength,
     // An output that is not twelve values.
     OutputLength,
-    // Fewer active voices than a frame is run with.
+    // Fewer than five active voices.
     TooFewVoices,
 }
 

@@ -64,7 +64,7 @@ done-valid m Reset h d = rw d fresh-valid
 done-valid m (Write a b) h d = after-valid m (Write a b) h (is-valid m (byte-done m a d .0))
 done-valid m (Read a) h d = after-valid m (Read a) h (is-valid m (byte-done m a d .0))
 done-valid m (SetPot p) h d = after-valid m (SetPot p) h (is-valid m (asked-back m 1023 p Pot refl d .0))
-done-valid m (Frame memory out) h d = after-valid m (Frame memory out) h (is-valid m (done-frame m memory out (is-done (frameAnswer m memory out) d) .sound))
+done-valid m (Frame memory out) h d = after-valid m (Frame memory out) h (is-valid m (done-frame m memory out (is-done (frameAnswer m memory out) d) .machine))
 
 -- and a refused one leaves the record as it was
 refused-same : (m : List ℕ) (c : Call) → isDone (answerTo m c) ≡ false → after m c ≡ m

@@ -40,7 +40,7 @@ one-engine e f h k m memory out ask l = one-outcome (e m memory out ask) (f m me
 
 pub one-lent : Lent one memory silence Ask.Frame
 one-lent = record {
-  words = valid-words one (is-valid one (done-frame one memory silence one-done .sound));
+  words = valid-words one (is-valid one (done-frame one memory silence one-done .machine));
   samples = all-joined U16 (replicate 8 32767) (replicate 4 32768)
       (all-copies U16 8 32767 (lit< tt)) (all-copies U16 4 32768 (lit< tt));
   values = all-copies I32 12 (pos 0) (record { bits = lit< tt });

@@ -21,7 +21,7 @@ use Rattle.frame.specs.Frame.{played, closed, heard, tooFew, frameAnswer
 
 -- all that a frame asks of what it is lent
 pub record Ready (m memory : List ℕ) (out : List ℤ) : Type 0 where
-  pub sound : Sound m
+  pub machine : Sound m
   pub voices : tooFew m ≡ false
   pub samples : length memory ≤ MOST_MEMORY_WORDS
   pub values : length out ≡ OUTPUT_VALUES
@@ -45,7 +45,7 @@ module _ (m memory : List ℕ) (out : List ℤ) where
   pub not-refused-frame : Ready m memory out → frameAnswer m memory out ≡ Done
   unfolding frameAnswer
   not-refused-frame r =
-      let t = sound-tests m (r .sound) in
+      let t = sound-tests m (r .machine) in
       rw (t .0, t .1, r .voices, le-ltb MOST_MEMORY_WORDS (length memory) (r .samples), eq-eqb (length out) OUTPUT_VALUES (r .values))
 
   -- the tests of the voices, the memory and the output, which come after those of the record
@@ -62,7 +62,7 @@ module _ (m memory : List ℕ) (out : List ℤ) where
   done-frame e =
       let n = none-holds ((wrongLength m, RecordLength) ∷ (notValid m, RecordInvalid) ∷ later) (refl, (refl, (refl, (refl, (refl, tt))))) (ap isDone e) .1 in
       record {
-        sound = tests-sound m (n .0);
+        machine = tests-sound m (n .0);
         voices = n .1 .0;
         samples = ltb-false MOST_MEMORY_WORDS (length memory) (n .1 .1 .0);
         values = eqb-true (length out) OUTPUT_VALUES (not-false (eqb (length out) OUTPUT_VALUES) (n .1 .1 .1 .0));

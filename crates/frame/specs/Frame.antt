@@ -69,9 +69,12 @@ closed m = let s = silenced m in set s SLOW ((getD s SLOW 0 + 1) % 8)
 unfoldable pub played : List ℕ → List ℕ → List ℕ
 played memory m = turns memory (getD m ACTV 0 + 1) m
 
--- fewer than five voices are active
+-- the least ACTV that a frame takes, and a record that has less: fewer than five voices are active
+abbrev pub LEAST-ACTV : ℕ
+LEAST-ACTV = 4
+
 abbrev pub tooFew : List ℕ → Bool
-tooFew m = ltb (getD m ACTV 0) 4
+tooFew m = ltb (getD m ACTV 0) LEAST-ACTV
 
 unfoldable pub frameAnswer : List ℕ → List ℕ → List ℤ → Answer
 frameAnswer m memory out =

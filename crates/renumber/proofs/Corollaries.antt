@@ -59,7 +59,7 @@ one-frame-more {m} {ψ = ψ} {t = t} memory out h k s v i d f =
     let s₁ = r .moved .sound in
     let v₁ : tooFew (run m t) ≡ false = rw (r .moved .active) v in
     let v₂ : tooFew (after (run m t) (Frame memory out)) ≡ false = rw (frame-word (run m t) memory out s₁ ACTV (lit≤ tt) (lit< tt) (λ e. omega arith) (λ e. omega arith)) v₁ in
-    let a = not-refused-frame (run m t) memory out (record { sound = s₁; voices = v₁; samples = h; values = k }) in
+    let a = not-refused-frame (run m t) memory out (record { machine = s₁; voices = v₁; samples = h; values = k }) in
     go-on memory out d a (f (frame-sound (run m t) memory out s₁) v₂ (over-frame ψ memory out s₁ (r .phase)))
 
 -- ---- the calls of writes

@@ -58,14 +58,14 @@ other-valid : valid other ≡ true
 unfolding other machine note putVoice fresh wordsFrom resetWord valid cutTo cut bitsOf sharedBits isVector
 other-valid = refl
 
--- all voices are active, as a reset leaves them
-one-all : tooFew one ≡ false
+-- at least five voices are active: a reset leaves all of them so
+one-active : tooFew one ≡ false
 unfolding one machine note putVoice fresh wordsFrom resetWord
-one-all = refl
+one-active = refl
 
-other-all : tooFew other ≡ false
+other-active : tooFew other ≡ false
 unfolding other machine note putVoice fresh wordsFrom resetWord
-other-all = refl
+other-active = refl
 
 -- ---- voices 3 and 5 exchanged
 
@@ -231,12 +231,12 @@ module _ (out out′ : List ℤ) (long : length out ≡ 12) (long′ : length ou
 
   trace : Trace one idle calls (log (volume 3 ∷ stopped ∷ []))
   unfolding calls log memory
-  trace = one-frame-more memory out (omega arith) long (sound one one-valid) one-all tt begins
+  trace = one-frame-more memory out (omega arith) long (sound one one-valid) one-active tt begins
       (λ s v i. one-frame-more memory out (omega arith) long s v i (finishes s i) (λ _ _ _. stop (reading 0 nothing)))
 
   trace′ : Trace other idle calls′ (log (stopped ∷ volume 5 ∷ []))
   unfolding calls′ log memory
-  trace′ = one-frame-more memory out′ (omega arith) long′ (sound other other-valid) other-all tt nothing
+  trace′ = one-frame-more memory out′ (omega arith) long′ (sound other other-valid) other-active tt nothing
       (λ s v i. one-frame-more memory out′ (omega arith) long′ s v i (both-whole s) (λ _ _ _. stop nothing))
 
   -- ---- the theorem at them

@@ -28,9 +28,10 @@ use Rattle.frame.specs.Frame.{addedTo, added, signalled, turnAt, turns, heard, 
 use Rattle.calls.specs.Calls.{Call, Write, Read, Frame, after, outputFrom, run, outputs}
 use Rattle.renumber.proofs.Example.{note, machine, one, other}
 
--- a frame over sample memory that holds one value; and how loud a run is on the left of channel 0, in its first frame
+-- a frame over sample memory that holds one value, lent an output of ones, which a refused frame would leave; and how loud a run is on the
+-- left of channel 0, in its first frame
 unfoldable pub frame : ℕ → Call
-frame x = Frame (x ∷ x ∷ []) (replicate 12 (pos 0))
+frame x = Frame (x ∷ x ∷ []) (replicate 12 (pos 1))
 
 unfoldable pub loudness : List ℤ → ℕ
 loudness out = natAbs (getD out 0 (pos 0))

@@ -21,13 +21,13 @@ returns : tie.Need-returns
 returns c = let r = c .before .refusal in frames-refused _ _ _ (r .result) (r .ensures) (is-refusal (r .result) (c .match .keys2))
 
 play-requires : tie.Need-play-requires
-play-requires c κs = is-valid _ (lent (c .before) .sound)
+play-requires c κs = is-valid _ (lent (c .before) .machine)
 
 close-requires : tie.Need-close-requires
 close-requires c κs =
     let t = c .before .before .before .before .before .before in
     let p = c .before .before .before .before .play .ensures in
-    let s = subst Sound (sym p) (sound-played _ (lent t .sound)) in
+    let s = subst Sound (sym p) (sound-played _ (lent t .machine)) in
     (s .size, (sum-small _ s, lent t .values))
 
 returns-2 : tie.Need-returns-2
