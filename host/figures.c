@@ -1494,11 +1494,10 @@ static void (*const groups[])(void) = {
     figure_8, figure_9, figure_10, figure_11, figure_12, compressed_samples,
     rounding, reset, validity, valid_vectors, valid_latches_and_signs,
     refusals, refused_arguments, few_voices, five_voices, register_map,
-    latches, shared_latch, channels_by_byte, taken_values,
-    vector_and_flags, odd_registers, sample,
-    bank_ends, filters, pole_edges, volume, what_sounds, written_sums,
-    address, address_rest, ramps, slow_ramps, values_before_ramps, events,
-    waiting_interrupts, idle_frames,
+    latches, shared_latch, channels_by_byte, taken_values, vector_and_flags,
+    odd_registers, sample, bank_ends, filters, pole_edges, volume,
+    what_sounds, written_sums, address, address_rest, ramps, slow_ramps,
+    values_before_ramps, events, waiting_interrupts, idle_frames,
 };
 
 int main(void)

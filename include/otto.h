@@ -42,7 +42,7 @@ extern "C" {
 #define OTTO_POT            4u /* the pot result is above 1023 */
 #define OTTO_MEMORY_LENGTH  5u /* sample memory is longer than four banks */
 #define OTTO_OUTPUT_LENGTH  6u /* the output is not 12 values */
-#define OTTO_TOO_FEW_VOICES 7u /* ACTV is below 4: fewer than five voices */
+#define OTTO_TOO_FEW_VOICES 7u /* ACTV is below 4: fewer than five active */
 
 /* ---- the machine --------------------------------------------------------- */
 
