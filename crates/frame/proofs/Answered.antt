@@ -14,7 +14,7 @@ use Rattle.answer.specs.declared.Answer.the-variants.{Done, RecordLength, Recor
 use Rattle.answer.proofs.Refusals.{none-holds, refused-early}
 use Rattle.machine.specs.Words.{OUTPUT_VALUES, valid}
 use Rattle.machine.specs.Check.{wrongLength, notValid, checked}
-use Rattle.machine.proofs.Valid.{Sound, sound}
+use Rattle.machine.proofs.Valid.{Sound}
 use Rattle.machine.proofs.Answers.{sound-tests, tests-sound}
 use Rattle.sample.specs.Sample.{MOST_MEMORY_WORDS}
 use Rattle.frame.specs.Frame.{played, closed, heard, tooFew, frameAnswer, frameRecord, frameOutput, Frames}
@@ -74,7 +74,7 @@ module _ (m memory : List ℕ) (out : List ℤ) where
 
   -- a valid record of too few voices: 7, and nothing changes, whatever memory and output are lent with it
   pub frames-few : valid m ≡ true → tooFew m ≡ true → Frames m memory out TooFewVoices m out
-  frames-few v k = frames-refused TooFewVoices (sym (refused-voices (sound m v) k)) refl
+  frames-few v k = frames-refused TooFewVoices (sym (refused-voices (tests-sound m (ap not v)) k)) refl
 
   pub frames-done : (after : List ℕ) (sound : List ℤ) → frameAnswer m memory out ≡ Done → after ≡ closed (played memory m) → sound ≡ heard (played memory m) → Frames m memory out Done after sound
   unfolding frameRecord frameOutput
