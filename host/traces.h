@@ -10,9 +10,9 @@
 /* Finds the bits each word keeps, by asking; before any other trace. */
 void trace_prepare(void);
 
-/* Everything that can be gone through one by one: codes, lengths, damage to
-   each word, each count of voices, each address on each page, loop points at
-   their edges, the ends of the banks. */
+/* Everything that can be gone through one by one: codes, lengths, limits,
+   damage to each word, each count of voices, each address on each page, loop
+   points at their edges, the ends of the banks. */
 void trace_walks(void);
 
 /* Random calls; the seed fixes them all. */

@@ -89,9 +89,9 @@ uint32_t otto_set_pot(uint32_t *record, size_t words, uint32_t pot);
  * 20 bits, -524288 to 524287, in channel order, left before right. A voice
  * that reads beyond the lent memory reads 0.
  *
- * ACTV, register 11 of pages 0 to 31, is the number of the last active voice.
- * At least five voices must be active, stopped or not, so ACTV must be at
- * least 4; a reset makes it 31. The host may write less, and every other call
+ * ACTV, register 11 of pages 0 to 31, is the number of the last active voice;
+ * a reset makes it 31. At least five voices must be active, stopped or not, so
+ * ACTV must be at least 4. The host may write less than 4, and every other call
  * takes a record that has less.
  *
  * Refusals: 1, 2, 7, 5, 6.
