@@ -328,6 +328,24 @@ static void figure_12(void)
     check("figure 12: past the end, CR", W(0, 0), 1);
 }
 
+/* With the poles before it at 0, pole 4 has no input in a frame. */
+static uint32_t pole_4_alone(uint32_t k2, uint32_t yp)
+{
+    fresh();
+    W(0, 7) = k2;
+    W(0, 14) = yp;
+    (void)frame(NULL, 0);
+    return W(0, 14);
+}
+
+static void figure_13(void)
+{
+    check("figure 13: 1000", reference_high_pass(0, 0, 0, 1000), 500);
+    check("figure 13: -1", reference_high_pass(1, 0, 0, -1), -1);
+    check("figure 13: 1000 in a frame", pole_4_alone(0, 1000), 500);
+    check("figure 13: -1 in a frame", pole_4_alone(0x10, 0x3FFFFu), 0x3FFFF);
+}
+
 /* ==== the manual's examples of compressed samples ========================= */
 
 struct example {
@@ -1093,8 +1111,8 @@ static void filters(void)
 {
     uint32_t voice;
 
-    filters_with(0x000, 0, 262144 - 500);
-    filters_with(0x100, 625, 125);
+    filters_with(0x000, 225, 262144 - 125);
+    filters_with(0x100, 625, 275);
     filters_with(0x200, 612, 453);
     filters_with(0x300, 625, 456);
 
@@ -1125,12 +1143,67 @@ static void pole_edges(void)
     /* Only the whole of the high pass is held. */
     check("high pass, parts not held",
           reference_high_pass(4095, 131071, -131072, -131072), 131071);
-    check("high pass, floor", reference_high_pass(1, 0, 0, -1), -1);
-    check("high pass, top", reference_high_pass(4095, 0, 0, 131071), 131039);
+    check("high pass, top", reference_high_pass(4095, 0, 0, 131071), 131055);
+    check("high pass, bottom", reference_high_pass(4095, 0, 0, -131072),
+          -131056);
     check("low pass, floor", reference_low_pass(1, 0, 1), 0);
     check("low pass, k 0", reference_low_pass(0, 131071, -131072), -131072);
     check("low pass, least", reference_low_pass(4095, -131072, 131071),
           -131009);
+}
+
+/* ==== a high pass without input =========================================== */
+
+static const int32_t lasts[] = {
+    131071, 131070, 65536, 1000, 3, 2, 1, 0, -1, -2, -3, -1000, -65537,
+    -131071, -131072
+};
+
+#define LASTS (sizeof lasts / sizeof lasts[0])
+
+/* At k 0 every frame leaves half, rounded down: after n frames that is the
+   first output divided by 2 to the n, once. */
+static void halving(void)
+{
+    size_t place;
+    uint32_t frames;
+
+    for (place = 0; place < LASTS; place++) {
+        fresh();
+        W(0, 14) = (uint32_t)(lasts[place] + 262144) % 262144;
+        for (frames = 0; frames <= 20; frames++) {
+            int64_t left = reference_divide(lasts[place], INT64_C(1) << frames);
+
+            check_at("halving", (uint32_t)place, frames, W(0, 14),
+                     (left + 262144) % 262144);
+            (void)frame(NULL, 0);
+        }
+    }
+}
+
+/* At every k the output stays between the first one and its rest. */
+static void range(void)
+{
+    size_t place;
+    int64_t k;
+
+    for (place = 0; place < LASTS; place++) {
+        int64_t last = lasts[place];
+        int64_t least = last < 0 ? last : 0;
+        int64_t greatest = last < 0 ? -1 : last;
+        int64_t strays = 0;
+
+        for (k = 0; k < 4096; k++) {
+            int64_t y = last;
+            int n;
+
+            for (n = 0; n < 40; n++) {
+                y = reference_high_pass(k, 0, 0, y);
+                strays += y < least || y > greatest;
+            }
+        }
+        check_at("range", (uint32_t)place, 0, strays, 0);
+    }
 }
 
 /* ==== frame: volume ======================================================= */
@@ -1491,13 +1564,14 @@ static void idle_frames(void)
 
 static void (*const groups[])(void) = {
     figure_1_and_2, figure_3, figure_4, figure_5, figure_6, figure_7,
-    figure_8, figure_9, figure_10, figure_11, figure_12, compressed_samples,
-    rounding, reset, validity, valid_vectors, valid_latches_and_signs,
-    refusals, refused_arguments, few_voices, five_voices, register_map,
-    latches, shared_latch, channels_by_byte, taken_values, vector_and_flags,
-    odd_registers, sample, bank_ends, filters, pole_edges, volume,
-    what_sounds, written_sums, address, address_rest, ramps, slow_ramps,
-    values_before_ramps, events, waiting_interrupts, idle_frames,
+    figure_8, figure_9, figure_10, figure_11, figure_12, figure_13,
+    compressed_samples, rounding, reset, validity, valid_vectors,
+    valid_latches_and_signs, refusals, refused_arguments, few_voices,
+    five_voices, register_map, latches, shared_latch, channels_by_byte,
+    taken_values, vector_and_flags, odd_registers, sample, bank_ends, filters,
+    pole_edges, halving, range, volume, what_sounds, written_sums, address,
+    address_rest, ramps, slow_ramps, values_before_ramps, events,
+    waiting_interrupts, idle_frames,
 };
 
 int main(void)

@@ -396,7 +396,7 @@ int64_t reference_low_pass(int64_t k, int64_t x, int64_t yp)
 
 int64_t reference_high_pass(int64_t k, int64_t x, int64_t xp, int64_t yp)
 {
-    int64_t y = x - xp + reference_divide(k * yp, 4096);
+    int64_t y = x - xp + reference_divide((4096 + k) * yp, 8192);
 
     return hold(y, -131072, 131071);
 }

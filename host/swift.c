@@ -300,7 +300,7 @@ static int32_t low(int32_t k, int32_t x, int32_t yp)
 
 static int32_t high(int32_t k, int32_t x, int32_t xp, int32_t yp)
 {
-    return hold(x - xp + ((k * yp) >> 12), -131072, 131071);
+    return hold(x - xp + (((4096 + k) * yp) >> 13), -131072, 131071);
 }
 
 /* Poles 3 and 4 are of four kinds together: one switch for both. */

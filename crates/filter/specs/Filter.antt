@@ -1,6 +1,6 @@
 -- The four poles that a voice's samples pass, on whole numbers: the two kinds of pole, which kind the control register makes of
 -- poles 3 and 4, and the four outputs. Assumes nothing.
-use Prim.Native.Nat.{ℕ, _/_}
+use Prim.Native.Nat.{ℕ, _+_, _/_}
 use mathlib.Core.Bool.{Bool, cond}
 use lib.IntN.{ℤ, pos, _+ℤ_, _-ℤ_, _*ℤ_}
 use Rattle.numbers.specs.Numbers.{floorDiv, held, minus}
@@ -11,9 +11,10 @@ use Rattle.filter.specs.declared.Poles.{Poles}
 unfoldable pub lowPass : ℕ → ℤ → ℤ → ℤ
 lowPass k x y = y +ℤ floorDiv (pos k *ℤ (x -ℤ y)) 4096
 
--- high pass, of the input x, the last input x′ and the last output y: Y = x - x′ + k * y / 4096, held to 18 bits
+-- high pass, of the input x, the last input x′ and the last output y: Y = x - x′ + (4096 + k) * y / 8192, held to 18 bits. The factor of
+-- y is never below one half, which is 4096 / 8192.
 unfoldable pub highPass : ℕ → ℤ → ℤ → ℤ → ℤ
-highPass k x x′ y = held (minus 131072) (pos 131071) (x -ℤ x′ +ℤ floorDiv (pos k *ℤ y) 4096)
+highPass k x x′ y = held (minus 131072) (pos 131071) (x -ℤ x′ +ℤ floorDiv (pos (4096 + k) *ℤ y) 8192)
 
 -- the coefficient of a K register
 unfoldable pub coefficient : ℕ → ℕ

@@ -1,2 +1,3 @@
+pub mod Decay
 pub mod Filter
 pub mod PoleBits

@@ -82,5 +82,6 @@ fn high_pass(k: u32, x: i32, xp: i32, yp: i32) -> i32
     requires { ⌜ Bits 18 yp ⌝ }
     ensures { λ r. ⌜ (r ≡ highPass k x xp yp) × Bits 18 r ⌝ }
 {
-    numbers::hold(-131072, 131071, x - xp + ((k as i32 * yp) >> 12))
+    let factor = (4096 + k) as i32;
+    numbers::hold(-131072, 131071, x - xp + ((factor * yp) >> 13))
 }

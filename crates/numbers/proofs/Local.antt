@@ -108,14 +108,10 @@ pub as-nat : {w w′ : Width} {n : ℕ} {z v : ℤ} → Num w n z v → T (ltb n
 as-nat {w′} {n} {v} a t h =
     (subst (λ (y : ℤ). T (nonNeg y)) (sym (a .is)) h, record { fits = subst (λ (y : ℤ). natAbs y < 2 ^ bits w′) (sym (a .is)) (lt-of-le-of-lt (a .size .within) (ltb→lt n (2 ^ bits w′) t)) })
 
--- needs that stand at one place of the code, answered together, so that they share what a `let` names: `share4 (tie.spec ..) (λ c. let .. in (a, b, e, f))`
+-- needs that stand at one place of the code, answered together, so that they share what a `let` names: `share3 (tie.spec ..) (λ c. let .. in (a, b, e))`
 module _ {ℓ} {A : Type 0} {R : Type ℓ} {B₁ B₂ B₃ : A → Type 0} where
   pub share3 : (((c : A) → B₁ c) → ((c : A) → B₂ c) → ((c : A) → B₃ c) → R) → ((c : A) → B₁ c × B₂ c × B₃ c) → R
   share3 f g = f (λ c. g c .0) (λ c. g c .1) (λ c. g c .2)
-
-module _ {ℓ} {A : Type 0} {R : Type ℓ} {B₁ B₂ B₃ B₄ : A → Type 0} where
-  pub share4 : (((c : A) → B₁ c) → ((c : A) → B₂ c) → ((c : A) → B₃ c) → ((c : A) → B₄ c) → R) → ((c : A) → B₁ c × B₂ c × B₃ c × B₄ c) → R
-  share4 f g = f (λ c. g c .0) (λ c. g c .1) (λ c. g c .2) (λ c. g c .3)
 
 module _ {ℓ} {A : Type 0} {R : Type ℓ} {B₁ B₂ B₃ B₄ B₅ B₆ : A → Type 0} where
   pub share6 : (((c : A) → B₁ c) → ((c : A) → B₂ c) → ((c : A) → B₃ c) → ((c : A) → B₄ c) → ((c : A) → B₅ c) → ((c : A) → B₆ c) → R) → ((c : A) → B₁ c × B₂ c × B₃ c × B₄ c × B₅ c × B₆ c) → R

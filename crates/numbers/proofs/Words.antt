@@ -107,6 +107,11 @@ unfolding held
 held-mag h (pos a) = either (λ z. mag z ≤ h) (ltb h a) (pos h) (pos a) (λ t. le-refl h) (λ t. ltb-false h a t)
 held-mag h (negsuc a) = either (λ z. mag z ≤ h) (ltb h a) (negsuc h) (negsuc a) (λ t. le-refl h) (λ t. ltb-false h a t)
 
+-- and what is in there already is held as it is
+pub held-same : (h : ℕ) (z : ℤ) → mag z ≤ h → held (negsuc h) (pos h) z ≡ z
+held-same h (pos a) l = held-in (negsuc h) (pos h) (pos a) refl (le-ltb h a l)
+held-same h (negsuc a) l = held-in (negsuc h) (pos h) (negsuc a) (le-ltb h a l) refl
+
 -- what is held to 0 .. h is a natural number there
 pub held-nat : (h : ℕ) (z : ℤ) → T (nonNeg (held (pos 0) (pos h) z)) × Within h (held (pos 0) (pos h) z)
 unfolding held

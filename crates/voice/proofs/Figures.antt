@@ -102,7 +102,10 @@ figures =
     ∷ (bitAfter STP0 (record { cr = stops; fc = 0; start = 2048; end = 10240; accum = 10240 }), pos 0)
     ∷ (accumAfter (record { cr = stops; fc = 0; start = 2048; end = 10240; accum = 10241 }), pos 10240)
     ∷ (bitAfter STP0 (record { cr = stops; fc = 0; start = 2048; end = 10240; accum = 10241 }), pos 1)
-    -- Beside the twelve, a target past the end of the addresses: it is past END. Tested after it has wrapped, it would be 72 and no event.
+    -- 13. a high pass keeps half of its last output where k is 0; and it rounds once: half of -1 and 1 / 8192 of it, each rounded down, are -2
+    ∷ (highPass 0 (pos 0) (pos 0) (pos 1000), pos 500)
+    ∷ (highPass 1 (pos 0) (pos 0) (minus 1), minus 1)
+    -- Beside the thirteen, a target past the end of the addresses: it is past END. Tested after it has wrapped, it would be 72 and no event.
     ∷ (accumAfter (record { cr = loops; fc = 200; start = 2048; end = 4294967168; accum = 4294967168 }), pos 2248)
     ∷ []
 
@@ -125,4 +128,4 @@ onto-END CR FC START END ACCUM d e h = on-within CR FC START END ACCUM d (omega 
 -- 5: with a last output of 0 the coefficient has no part in the high pass.
 pub no-coefficient : (k : ℕ) (x x′ : ℤ) → highPass k x x′ (pos 0) ≡ highPass 0 x x′ (pos 0)
 unfolding highPass
-no-coefficient k x x′ = rw (mul-zero k)
+no-coefficient k x x′ = rw (mul-zero (4096 + k))
