@@ -36,7 +36,7 @@ module _ (k : ℕ) (hk : k < 4096) (a : ℕ) (ha : a < 131072) where
 
   frame-above : highPass k (pos 0) (pos 0) (pos a) ≡ pos ((4096 + k) * a / 8192)
   unfolding highPass floorDiv
-  frame-above = inside (pos ((4096 + k) * a / 8192)) (omega (arith, above-le))
+  frame-above = ap (λ (n : ℕ). held (minus 131072) (pos 131071) (pos n)) (omega arith) ∙ held-same 131071 (pos ((4096 + k) * a / 8192)) (omega (arith, above-le))
 
   frame-below : highPass k (pos 0) (pos 0) (negsuc a) ≡ negsuc (((4096 + k) * suc a - 1) / 8192)
   unfolding highPass floorDiv

@@ -1,7 +1,8 @@
 // The four poles that a voice's samples pass. Outputs are numbers of 18 bits, and each pole keeps them so.
 ghost use mathlib.Core.Path.{_≡_};
 ghost use Prim.Native.Nat.{_<_};
-ghost use Rattle.numbers.specs.Numbers.{Bits};
+ghost use lib.IntN.{pos, _*ℤ_};
+ghost use Rattle.numbers.specs.Numbers.{floorDiv, Bits};
 ghost use Rattle.filter.specs.Filter.{lowPass, highPass, coefficient, pole3, pole4, filtered};
 ghost use Rattle.filter.specs.PoleBits.{PoleBits};
 
@@ -82,6 +83,14 @@ fn high_pass(k: u32, x: i32, xp: i32, yp: i32) -> i32
     requires { ⌜ Bits 18 yp ⌝ }
     ensures { λ r. ⌜ (r ≡ highPass k x xp yp) × Bits 18 r ⌝ }
 {
-    let factor = (4096 + k) as i32;
-    numbers::hold(-131072, 131071, x - xp + ((factor * yp) >> 13))
+    numbers::hold(-131072, 131071, x - xp + scaled(4096 + k, yp))
+}
+
+// f / 8192 of y.
+fn scaled(f: u32, y: i32) -> i32
+    requires { ⌜ f < 8192 ⌝ }
+    requires { ⌜ Bits 18 y ⌝ }
+    ensures { λ r. ⌜ (r ≡ floorDiv (pos f *ℤ y) 8192) × Bits 18 r ⌝ }
+{
+    (f as i32 * y) >> 13
 }

@@ -22,6 +22,10 @@ pub of-bits : {n : ℕ} {z : ℤ} → Bits n z → Within (2 ^ (n - 1)) z
 of-bits {z = pos a} h = record { within = omega arith }
 of-bits {z = negsuc a} h = record { within = omega arith }
 
+pub to-bits : {m n : ℕ} {z : ℤ} → T (ltb m (2 ^ (n - 1))) → Within m z → Bits n z
+to-bits {m} {n} {z = pos a} t h = record { bits = omega (arith, ltb→lt m (2 ^ (n - 1)) t) }
+to-bits {m} {n} {z = negsuc a} t h = record { bits = omega (arith, ltb→lt m (2 ^ (n - 1)) t) }
+
 pub widen : {m n : ℕ} {z : ℤ} → T (leb m n) → Within m z → Within n z
 widen {m} {n} t h = record { within = le-trans (h .within) (leb→le m n t) }
 

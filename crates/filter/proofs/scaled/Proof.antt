@@ -1,0 +1,20 @@
+-- `filter::scaled` meets its contract: a factor below 2 ^ 13 times a number of 18 bits fits 32 bits, and the quotient has 18 bits again.
+-- Assumes nothing.
+use mathlib.Core.Path.{sym, subst}
+use native.Mathlib.Omega.{arith}
+use borrow.Author.Needs.{needs}
+use mir.Syntax.{w32}
+use Rattle.numbers.specs.Numbers.{Bits}
+use Rattle.numbers.proofs.Local.{held, nat, mul, shr}
+use Rattle.numbers.proofs.Within.{to-bits}
+use Rattle.filter.proofs.scaled.Statement.{statement}
+use Rattle.filter.proofs.scaled.Tie as tie
+
+returns : tie.Need-returns
+returns c =
+    let p = mul (nat w32 8191 (c .args .f) tt (omega arith)) (held w32 tt (c .pre .1)) tt in
+    let q = shr 8192 (p .num) tt in
+    (q .num .is, subst (Bits 18) (sym (q .num .is)) (to-bits tt (q .num .size)))
+
+pub scaled-spec : {M : Type 1} → statement M
+scaled-spec = tie.close (tie.spec (λ c. search needs) (λ c. mul (nat w32 8191 (c .args .f) tt (omega arith)) (held w32 tt (c .pre .1)) tt .asks) returns)
