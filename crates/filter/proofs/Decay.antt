@@ -3,14 +3,14 @@
 -- In order: one frame, from above and from below; n frames where k is 0, and where they come to rest; n frames of any k; last when nothing
 -- comes in to poles 3 and 4. Assumes nothing.
 use mathlib.Core.Path.{_≡_, refl, sym, ap, subst, _∙_}
-use mathlib.Core.Bool.{true, false}
+use mathlib.Core.Bool.{false}
 use Prim.Native.Nat.{ℕ, zero, suc, _+_, _-_, _*_, _/_, _^_, _<_, _≤_, zero-le}
 use native.Mathlib.Nat.{mul-zero, mul-le-mul-right, le-refl, le-trans, lt-of-lt-of-le, lt-of-le-of-lt, div-one, div-eq-of-lt, pow-suc}
 use native.Mathlib.Omega.{arith}
 use lib.Dec.{le→leb}
 use lib.Pow.{pow-mono}
 use lib.IntN.{ℤ, pos, negsuc, negℤ, _+ℤ_, +ℤ-idl}
-use lib.Signed.{mag, _≤ℤ_, leZ-yes}
+use lib.Signed.{_≤ℤ_, leZ-yes}
 use Rattle.numbers.specs.Numbers.{floorDiv, held, minus, Bits}
 use Rattle.numbers.proofs.Words.{held-same, floor-floor}
 use Rattle.numbers.proofs.Tests.{split}
@@ -22,9 +22,8 @@ use Rattle.filter.proofs.Laws.{high-bits, pole3-one, pole3-zero, pole4-
 
 -- ---- one frame
 
--- what is left of the rule where both inputs are 0 and the quotient is in range
-inside : (z : ℤ) → mag z ≤ 131071 → held (minus 131072) (pos 131071) (pos 0 +ℤ z) ≡ z
-inside z h = ap (held (minus 131072) (pos 131071)) (+ℤ-idl z) ∙ held-same 131071 z h
+abbrev limited : ℤ → ℤ
+limited = held (minus 131072) (pos 131071)
 
 -- from a, and from -(a + 1)
 module _ (k : ℕ) (hk : k < 4096) (a : ℕ) (ha : a < 131072) where
@@ -36,14 +35,15 @@ module _ (k : ℕ) (hk : k < 4096) (a : ℕ) (ha : a < 131072) where
 
   frame-above : highPass k (pos 0) (pos 0) (pos a) ≡ pos ((4096 + k) * a / 8192)
   unfolding highPass floorDiv
-  frame-above = ap (λ (n : ℕ). held (minus 131072) (pos 131071) (pos n)) (omega arith) ∙ held-same 131071 (pos ((4096 + k) * a / 8192)) (omega (arith, above-le))
+  frame-above = ap (λ (n : ℕ). limited (pos n)) (omega arith) ∙ held-same 131071 (pos ((4096 + k) * a / 8192)) (omega (arith, above-le))
 
   frame-below : highPass k (pos 0) (pos 0) (negsuc a) ≡ negsuc (((4096 + k) * suc a - 1) / 8192)
   unfolding highPass floorDiv
   frame-below =
-      let e : (4096 + k) * suc a ≡ suc ((4096 + k) * suc a - 1) = omega arith in
-      ap (λ (n : ℕ). held (minus 131072) (pos 131071) (pos 0 +ℤ floorDiv (negℤ (pos n)) 8192)) e
-      ∙ inside (negsuc (((4096 + k) * suc a - 1) / 8192)) (omega (arith, below-le))
+      let n = (4096 + k) * suc a - 1 in
+      let e : (4096 + k) * suc a ≡ suc n = omega arith in
+      ap (λ (p : ℕ). limited (pos 0 +ℤ floorDiv (negℤ (pos p)) 8192)) e
+      ∙ ap limited (+ℤ-idl (negsuc (n / 8192))) ∙ held-same 131071 (negsuc (n / 8192)) (omega (arith, below-le))
 
 -- ---- n frames where k is 0
 
