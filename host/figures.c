@@ -1154,25 +1154,26 @@ static void pole_edges(void)
 
 /* ==== a high pass without input =========================================== */
 
-static const int32_t lasts[] = {
+static const int32_t last_outputs[] = {
     131071, 131070, 65536, 1000, 3, 2, 1, 0, -1, -2, -3, -1000, -65537,
     -131071, -131072
 };
 
-#define LASTS (sizeof lasts / sizeof lasts[0])
+#define LAST_OUTPUTS (sizeof last_outputs / sizeof last_outputs[0])
 
-/* At k 0 every frame leaves half, rounded down: after n frames that is the
-   first output divided by 2 to the n, once. */
+/* At k 0 every frame leaves half, rounded down: after n frames that is Yp
+   divided by 2 to the n, once. */
 static void halving(void)
 {
     size_t place;
     uint32_t frames;
 
-    for (place = 0; place < LASTS; place++) {
+    for (place = 0; place < LAST_OUTPUTS; place++) {
         fresh();
-        W(0, 14) = (uint32_t)(lasts[place] + 262144) % 262144;
+        W(0, 14) = (uint32_t)(last_outputs[place] + 262144) % 262144;
         for (frames = 0; frames <= 20; frames++) {
-            int64_t left = reference_divide(lasts[place], INT64_C(1) << frames);
+            int64_t left = reference_divide(last_outputs[place],
+                                            INT64_C(1) << frames);
 
             check_at("halving", (uint32_t)place, frames, W(0, 14),
                      (left + 262144) % 262144);
@@ -1181,29 +1182,38 @@ static void halving(void)
     }
 }
 
-/* At every k the output stays between the first one and its rest. */
+/* How many of 40 outputs are not between Yp and the rest of k 0. */
+static int64_t outside(int64_t k, int64_t yp)
+{
+    int64_t least = yp < 0 ? yp : 0;
+    int64_t greatest = yp < 0 ? -1 : yp;
+    int64_t y = yp;
+    int64_t count = 0;
+    int frames;
+
+    for (frames = 0; frames < 40; frames++) {
+        y = reference_high_pass(k, 0, 0, y);
+        count += y < least || y > greatest;
+    }
+    return count;
+}
+
+/* At every k all are. With a greater k the pole may rest sooner from below. */
 static void range(void)
 {
     size_t place;
     int64_t k;
 
-    for (place = 0; place < LASTS; place++) {
-        int64_t last = lasts[place];
-        int64_t least = last < 0 ? last : 0;
-        int64_t greatest = last < 0 ? -1 : last;
-        int64_t strays = 0;
+    for (place = 0; place < LAST_OUTPUTS; place++) {
+        int64_t count = 0;
 
         for (k = 0; k < 4096; k++) {
-            int64_t y = last;
-            int n;
-
-            for (n = 0; n < 40; n++) {
-                y = reference_high_pass(k, 0, 0, y);
-                strays += y < least || y > greatest;
-            }
+            count += outside(k, last_outputs[place]);
         }
-        check_at("range", (uint32_t)place, 0, strays, 0);
+        check_at("range", (uint32_t)place, 0, count, 0);
     }
+    check("rest of k 4095", reference_high_pass(4095, 0, 0, -8191), -8191);
+    check("one before it", reference_high_pass(4095, 0, 0, -8192), -8191);
 }
 
 /* ==== frame: volume ======================================================= */

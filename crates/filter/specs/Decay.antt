@@ -3,7 +3,7 @@ use Prim.Native.Nat.{ℕ, zero, suc}
 use lib.IntN.{ℤ, pos}
 use Rattle.filter.specs.Filter.{highPass}
 
--- the output n frames after y, where in each of them the input and the last input are 0
+-- the output after n frames, where y is the last output before them, and in each the input and the last input are 0
 unfoldable pub decayed : ℕ → ℕ → ℤ → ℤ
 decayed k zero y = y
 decayed k (suc n) y = highPass k (pos 0) (pos 0) (decayed k n y)

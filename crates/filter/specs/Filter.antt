@@ -11,8 +11,8 @@ use Rattle.filter.specs.declared.Poles.{Poles}
 unfoldable pub lowPass : ℕ → ℤ → ℤ → ℤ
 lowPass k x y = y +ℤ floorDiv (pos k *ℤ (x -ℤ y)) 4096
 
--- high pass, of the input x, the last input x′ and the last output y: Y = x - x′ + (4096 + k) * y / 8192, held to 18 bits. The factor of
--- y is never below one half, which is 4096 / 8192.
+-- high pass, of the input x, the last input x′ and the last output y: Y = x - x′ + (4096 + k) * y / 8192, held to 18 bits. 4096 is
+-- the offset, one half of 8192.
 unfoldable pub highPass : ℕ → ℤ → ℤ → ℤ → ℤ
 highPass k x x′ y = held (minus 131072) (pos 131071) (x -ℤ x′ +ℤ floorDiv (pos (4096 + k) *ℤ y) 8192)
 

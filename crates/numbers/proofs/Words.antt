@@ -4,7 +4,7 @@ use mathlib.Core.Path.{_≡_, refl, sym, ap, subst, _∙_}
 use mathlib.Core.Bool.{true, false}
 use Prim.Native.Nat.{ℕ, zero, suc, _+_, _-_, _*_, _/_, _%_, _^_, _<_, _≤_, zero-le}
 use native.Mathlib.Nat.{le-refl, not-suc-le-zero, pow-suc, mod-lt, div-add-mod', mod-eq-of-lt, add-mod-right, mod-add-mod, mul-assoc, zero-div, mul-div-cancel}
-use native.Mathlib.Nat.{div-div-eq-div-mul}
+use native.Mathlib.Nat.{div-one, div-div-eq-div-mul}
 use native.Mathlib.Omega.{arith}
 use lib.Dec.{T, ltb}
 use lib.Pow.{pow-pos, pow-mono}
@@ -148,6 +148,12 @@ floor-law (negsuc a) m h =
           ∙ ⊖-eq (m * 0 + ((m - 1) - a % m)) (m * suc (a / m) + 0) 0 (suc a) (omega arith)),
       omega arith,
     )
+
+-- a division by 1 changes nothing
+pub floor-one : (z : ℤ) → floorDiv z 1 ≡ z
+unfolding floorDiv
+floor-one (pos a) = ap pos (div-one a)
+floor-one (negsuc a) = ap negsuc (div-one a)
 
 -- two divisions are one by the product; and a factor that the number and the divisor share falls out
 pub floor-floor : (z : ℤ) (m n : ℕ) → floorDiv (floorDiv z m) n ≡ floorDiv z (m * n)
