@@ -1198,7 +1198,8 @@ static int64_t outside(int64_t k, int64_t yp)
     return count;
 }
 
-/* At every k all are. With a greater k the pole may rest sooner from below. */
+/* At every k the output stays between Yp and the rest of k 0. From below it
+   may come to rest before it gets there. */
 static void range(void)
 {
     size_t place;

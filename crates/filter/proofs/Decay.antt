@@ -63,17 +63,17 @@ module _ (n : ℕ) (hn : 17 ≤ n) where
 
   pub rests-above : (y : ℤ) → Bits 18 y → pos 0 ≤ℤ y → decayed 0 n y ≡ pos 0
   unfolding floorDiv
-  rests-above (pos a) h s = halves n (pos a) h ∙ ap pos (gone a (h .bits))
-  rests-above (negsuc a) h s = absurd (s .le)
+  rests-above (pos a) h side = halves n (pos a) h ∙ ap pos (gone a (h .bits))
+  rests-above (negsuc a) h side = absurd (side .le)
 
   pub rests-below : (y : ℤ) → Bits 18 y → y ≤ℤ minus 1 → decayed 0 n y ≡ minus 1
   unfolding floorDiv
-  rests-below (pos a) h s = absurd (s .le)
-  rests-below (negsuc a) h s = halves n (negsuc a) h ∙ ap negsuc (gone a (h .bits))
+  rests-below (pos a) h side = absurd (side .le)
+  rests-below (negsuc a) h side = halves n (negsuc a) h ∙ ap negsuc (gone a (h .bits))
 
 -- ---- n frames of any k
 
--- z is on a's side of the rests, and no farther out than a: s is `pos` or `negsuc`
+-- z is `s b` with b no greater than a, and so no farther out than `s a`; s is `pos` or `negsuc`
 abbrev Nearer : (ℕ → ℤ) → ℕ → ℤ → Type 0
 Nearer s a z = (b : ℕ) × (b ≤ a) × (z ≡ s b)
 
@@ -88,13 +88,13 @@ nearer k s frame (suc n) a h =
 
 module _ (k : ℕ) (hk : k < 4096) (n : ℕ) where
   pub stays-above : (y : ℤ) → Bits 18 y → pos 0 ≤ℤ y → (pos 0 ≤ℤ decayed k n y) × (decayed k n y ≤ℤ y)
-  stays-above (pos a) h s =
+  stays-above (pos a) h side =
       let l = nearer k pos (λ b g. ((4096 + k) * b / 8192, above-le k hk b, frame-above k hk b g)) n a (h .bits) in
       subst (λ (z : ℤ). (pos 0 ≤ℤ z) × (z ≤ℤ pos a)) (sym (l .2)) (leZ-yes (le→leb 0 (l .0) zero-le), leZ-yes (le→leb (l .0) a (l .1)))
-  stays-above (negsuc a) h s = absurd (s .le)
+  stays-above (negsuc a) h side = absurd (side .le)
 
   pub stays-below : (y : ℤ) → Bits 18 y → y ≤ℤ minus 1 → (y ≤ℤ decayed k n y) × (decayed k n y ≤ℤ minus 1)
-  stays-below (pos a) h s = absurd (s .le)
-  stays-below (negsuc a) h s =
+  stays-below (pos a) h side = absurd (side .le)
+  stays-below (negsuc a) h side =
       let l = nearer k negsuc (λ b g. (((4096 + k) * suc b - 1) / 8192, below-le k hk b, frame-below k hk b g)) n a (h .bits) in
       subst (λ (z : ℤ). (negsuc a ≤ℤ z) × (z ≤ℤ minus 1)) (sym (l .2)) (leZ-yes (le→leb (l .0) a (l .1)), leZ-yes (le→leb 0 (l .0) zero-le))

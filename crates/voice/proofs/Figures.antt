@@ -102,7 +102,8 @@ figures =
     ∷ (bitAfter STP0 (record { cr = stops; fc = 0; start = 2048; end = 10240; accum = 10240 }), pos 0)
     ∷ (accumAfter (record { cr = stops; fc = 0; start = 2048; end = 10240; accum = 10241 }), pos 10240)
     ∷ (bitAfter STP0 (record { cr = stops; fc = 0; start = 2048; end = 10240; accum = 10241 }), pos 1)
-    -- 13. a high pass keeps half of its last output where k is 0; and it rounds once: half of -1 and 1 / 8192 of it, each rounded down, are -2
+    -- 13. a high pass keeps half of its last output where k is 0; and it rounds once: half of -1 and 1 / 8192 of it, each rounded down, would
+    -- be -2 together
     ∷ (highPass 0 (pos 0) (pos 0) (pos 1000), pos 500)
     ∷ (highPass 1 (pos 0) (pos 0) (minus 1), minus 1)
     -- Beside the thirteen, a target past the end of the addresses: it is past END. Tested after it has wrapped, it would be 72 and no event.
