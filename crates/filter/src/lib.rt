@@ -86,7 +86,7 @@ fn high_pass(k: u32, x: i32, xp: i32, yp: i32) -> i32
     numbers::hold(-131072, 131071, x - xp + scaled(4096 + k, yp))
 }
 
-// The part of its last output that a high pass keeps: f / 8192 of y.
+// The part of its last output that a high pass keeps: f / 8192 of y, rounded down.
 fn scaled(f: u32, y: i32) -> i32
     requires { ⌜ f < 8192 ⌝ }
     requires { ⌜ Bits 18 y ⌝ }
