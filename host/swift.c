@@ -229,14 +229,17 @@ static int16_t expand(uint8_t code)
     return values[code];
 }
 
+/* The leading bits that equal the sign are counted, at most 24, which is
+   exponent 0, and shifted out, at most 23; the five on top are the mantissa. */
 static uint8_t compress(int16_t sample)
 {
-    uint32_t size = (uint32_t)(sample ^ (sample >> 15));
-    uint32_t top = size >> 8;
-    uint32_t exponent = top != 0 ? 32 - (uint32_t)__builtin_clz(top) : 0;
-    uint32_t shift = 3 + exponent + (exponent == 0);
+    int32_t s = sample;
+    uint32_t magnitude = (uint32_t)(s ^ (s >> 31));
+    uint32_t zeros = (uint32_t)__builtin_clz(magnitude | 255);
+    uint32_t shift = zeros < 23 ? zeros : 23;
+    uint32_t mantissa = (uint32_t)s << shift >> 27;
 
-    return (uint8_t)(32 * exponent + ((uint32_t)(sample >> shift) & 31));
+    return (uint8_t)(32 * (24 - zeros) + mantissa);
 }
 
 /* ==== one frame =========================================================== */

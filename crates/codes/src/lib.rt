@@ -1,9 +1,10 @@
 // Compressed samples: expand a code of 8 bits, compress a sample of 16.
-// `expand` reads a table of all 256 values, whose rule is proved over the whole table. `compress` takes as long for a quiet
-// sample as for a loud one: how it finds the exponent is `exponent`'s matter alone, and in no promise but its own.
+// `expand` reads a table of all 256 values, whose rule is proved over the whole table. `compress` takes the same instructions for every
+// sample: it has the exponent from the processor's count of leading zeros, and no jump stands on its way.
 ghost use mathlib.Core.Path.{_≡_};
-ghost use Prim.Native.Nat.{_+_, _^_, _<_, max};
+ghost use Prim.Native.Nat.{_+_, _-_, _^_, _<_, max};
 ghost use lib.Signed.{mag};
+ghost use Rattle.numbers.specs.Numbers.{floorDiv, word};
 ghost use Rattle.codes.specs.Codes.{valueOf, Expands, Compressed};
 ghost use Rattle.codes.specs.Exponent.{Exponent};
 
@@ -296,36 +297,39 @@ pub fn compress(sample: i16) -> u8
     ensures { λ r. ⌜ Compressed sample r ⌝ }
 {
     let e = exponent(magnitude(sample));
-    let mantissa = numbers::word_of(5, sample as i32 >> shift(e));
-    (32 * e + mantissa) as u8
+    let m = mantissa(sample, e);
+    (32 * e + m) as u8
 }
 
-// The sample, or the complement of a negative one.
+// The sample, or the complement of a negative one: `s >> 31` has no bit set, or every bit, which turns all of the sample's.
 fn magnitude(sample: i16) -> u32
     ensures { λ r. ⌜ (r ≡ mag sample) × (r < 32768) ⌝ }
 {
     let s = sample as i32;
-    if s < 0 { (-1 - s) as u32 } else { s as u32 }
+    (s ^ (s >> 31)) as u32
 }
 
-// The exponent of a sample of magnitude t: how many of the bits 8 to 14 it takes.
+// The exponent of a sample of magnitude t: how many of the bits 8 to 14 it takes. The bits below do not matter to it; they are set, so that
+// the count is never above 24 and nothing has to be compared.
 fn exponent(t: u32) -> u32
     requires { ⌜ t < 32768 ⌝ }
     ensures { λ r. ⌜ Exponent t r ⌝ }
 {
-    let mut e: u32 = 0;
-    for bit in 8u32..15u32 {
-        if t >> bit != 0 {
-            e += 1;
-        }
-    }
-    e
+    24 - u32::leading_zeros(t | 255)
 }
 
-// How far a sample is shifted to give the mantissa: 3 + e, and at exponent 0 as at 1.
+// The mantissa of a sample of exponent e: the leading bits that equal its sign are shifted out, and the five then on top are it.
+fn mantissa(sample: i16, e: u32) -> u32
+    requires { ⌜ e < 8 ⌝ }
+    ensures { λ r. ⌜ (r ≡ word 5 (floorDiv sample (2 ^ (3 + max 1 e)))) × (r < 32) ⌝ }
+{
+    numbers::word_of(5, (sample as i32) << shift(e) >> 27)
+}
+
+// How many of a sample's 32 bits are shifted out: 24 - e, and at exponent 0 as many as at 1.
 fn shift(e: u32) -> u32
     requires { ⌜ e < 8 ⌝ }
-    ensures { λ r. ⌜ r ≡ 3 + max 1 e ⌝ }
+    ensures { λ r. ⌜ r ≡ 24 - max 1 e ⌝ }
 {
-    if e == 0 { 4 } else { 3 + e }
+    if e == 0 { 23 } else { 24 - e }
 }

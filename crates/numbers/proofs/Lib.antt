@@ -4,3 +4,5 @@ pub mod Order
 pub mod Within
 pub mod Local
 pub mod Words
+pub mod Count
+pub mod LocalBits

@@ -8,7 +8,7 @@ use native.Mathlib.Nat.{div-one, div-div-eq-div-mul}
 use native.Mathlib.Omega.{arith}
 use lib.Dec.{T, ltb}
 use lib.Pow.{pow-pos, pow-mono}
-use borrow.Author.Tests.{lt-ltb, le-ltb, ltb-true, ltb-false}
+use borrow.Author.Tests.{lt-ltb, le-ltb, ltb-false}
 use lib.IntN.{ℤ, pos, negsuc, natAbs, _+ℤ_, _-ℤ_, _*ℤ_, +ℤ-negℤ-cancel}
 use lib.Signed.{ltZ, nonNeg, mag, pos-natAbs}
 use Rattle.numbers.specs.Numbers.{floorDiv, floorMod, signed, word, held, Bits, Within}
@@ -191,16 +191,3 @@ signed-word n z k h =
     signed-bias n (word n z) k (word-lt n z)
     ∙ ap (λ (x : ℕ). x ⊖ 2 ^ (n - 1)) (ap (λ (w : ℕ). (w + 2 ^ (n - 1)) % 2 ^ n) is ∙ mod-add-mod (p + 2 ^ (n - 1)) (2 ^ n) (2 ^ (n - 1)) ∙ ap (λ (x : ℕ). x % 2 ^ n) turn ∙ add-mod-right p (2 ^ n) ∙ mod-eq-of-lt small)
     ∙ sym (a .2)
-
--- ---- the magnitude of a number, by its sign: the number, or the complement of a negative one
-
-pub natural : (z : ℤ) → ltZ z (pos 0) ≡ false → T (nonNeg z) × (natAbs z ≡ mag z)
-natural (pos a) h = (tt, refl)
-natural (negsuc a) h = absurd (subst T h tt)
-
-pub complement : (z : ℤ) → ltZ z (pos 0) ≡ true → T (nonNeg (negsuc 0 -ℤ z)) × (natAbs (negsuc 0 -ℤ z) ≡ mag z)
-unfolding _⊖_
-complement (pos a) h = absurd (not-suc-le-zero (ltb-true a 0 h))
-complement (negsuc a) h =
-    let e : negsuc 0 -ℤ negsuc a ≡ pos a = is-pos (suc a) 1 a (omega arith) in
-    (subst (λ (z : ℤ). T (nonNeg z)) (sym e) tt, ap natAbs e)
