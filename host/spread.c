@@ -1,13 +1,14 @@
 /*
  * spread [ENGINE]: counts the instructions that an engine, the library where
  * none is named, takes to compress each of the 65,536 samples, and prints the
- * least count and the greatest. Fails where they differ, or where a sample
- * goes another way through the code than the first one did.
+ * least number and the greatest. Fails where they differ, where a sample goes
+ * another way through the code than the first one did, and where nothing can
+ * be counted.
  *
  * Each call is run in single steps: while the trap flag is set, the processor
- * stops before every instruction, and a handler looks where it is. A count is
- * of the function alone, from its first instruction to its return. There are
- * no other samples; so where all go one way, no branch depends on the sample.
+ * stops before every instruction, and a handler looks where it is. The number
+ * is of the function alone, from its first instruction to its return. There
+ * are no other samples; so where all go one way, no branch depends on one.
  */
 #define _GNU_SOURCE
 #include <signal.h>
@@ -16,14 +17,16 @@
 
 #include "engines.h"
 
-#define SAMPLES    65536
-#define MOST_STEPS 4096u
+#define LEAST_SAMPLE    (-32768)
+#define GREATEST_SAMPLE 32767
+#define MOST_STEPS      4096u /* of a way that is remembered */
 
-static uintptr_t entry; /* the function's first instruction */
+typedef uint8_t compressor(int16_t sample);
 
 /* Of the call that is being stepped. */
-static volatile int inside;
+static volatile uintptr_t entry; /* the function's first instruction */
 static volatile uintptr_t stack; /* the stack pointer as it began */
+static volatile int inside;
 static volatile uint32_t steps;
 static volatile int strayed;
 
@@ -33,17 +36,15 @@ static volatile uint32_t way_steps;
 
 static void step(int number, siginfo_t *info, void *context)
 {
-    const ucontext_t *machine = context;
-    uintptr_t at = (uintptr_t)machine->uc_mcontext.gregs[REG_RIP];
-    uintptr_t pointer = (uintptr_t)machine->uc_mcontext.gregs[REG_RSP];
+    const ucontext_t *state = context;
+    uintptr_t at = (uintptr_t)state->uc_mcontext.gregs[REG_RIP];
+    uintptr_t pointer = (uintptr_t)state->uc_mcontext.gregs[REG_RSP];
 
     (void)number;
     (void)info;
     if (!inside && at == entry) {
         inside = 1;
         stack = pointer;
-        steps = 0;
-        strayed = 0;
     } else if (inside && pointer > stack) {
         inside = 0; /* it has returned */
     }
@@ -65,47 +66,85 @@ static void step(int number, siginfo_t *info, void *context)
                      "lea 128(%%rsp), %%rsp" ::                              \
                          : "cc", "memory")
 
-static void step_through(const struct engine *engine, int16_t sample)
+static void step_through(compressor *function, int16_t sample)
 {
+    compressor *volatile called = function; /* so that it is a call */
+
+    entry = (uintptr_t)function;
+    inside = 0;
+    steps = 0;
+    strayed = 0;
     CHANGE_FLAGS("orq $0x100");
-    (void)engine->compress(sample);
+    (void)called(sample);
     CHANGE_FLAGS("andq $~0x100");
 }
 
-/* Prints the spread; whether there is none. */
-static int even(const struct engine *engine)
-{
-    uint32_t least = UINT32_MAX;
-    uint32_t greatest = 0;
-    uint32_t strays = 0;
+struct spread {
+    uint32_t least;
+    uint32_t greatest;
+    uint32_t strays; /* samples that go another way than the first */
+};
 
-    for (int32_t i = 0; i < SAMPLES; i++) {
-        step_through(engine, (int16_t)(i - SAMPLES / 2));
-        way_steps = i == 0 ? steps : way_steps;
-        least = steps < least ? steps : least;
-        greatest = steps > greatest ? steps : greatest;
-        strays += strayed != 0;
+static struct spread spread_of(compressor *function, int32_t from, int32_t to)
+{
+    struct spread found = { UINT32_MAX, 0, 0 };
+
+    way_steps = 0;
+    for (int32_t sample = from; sample <= to; sample++) {
+        step_through(function, (int16_t)sample);
+        way_steps = sample == from ? steps : way_steps;
+        found.least = steps < found.least ? steps : found.least;
+        found.greatest = steps > found.greatest ? steps : found.greatest;
+        found.strays += strayed != 0;
     }
-    printf("spread compress %u %u\n", least, greatest);
-    if (strays != 0) {
-        printf("spread: %u samples go another way than the first\n", strays);
-    }
-    return least == greatest && strays == 0 && least != 0;
+    return found;
+}
+
+/* Zero goes another way than all others, and one as long. */
+static uint8_t forked(int16_t sample)
+{
+    __asm__ volatile("test %0, %0\n\tjz 1f\n\tnop\n\tjmp 2f\n"
+                     "1:\tnop\n\tnop\n2:" ::"r"(sample) : "cc");
+    return 0;
+}
+
+/* One more instruction for samples below zero. */
+static uint8_t longer(int16_t sample)
+{
+    __asm__ volatile("test %0, %0\n\tjns 1f\n\tnop\n1:" ::"r"(sample) : "cc");
+    return 0;
+}
+
+/* Whether both are found out, and so single steps are to be had here. */
+static int finds(void)
+{
+    struct spread even = spread_of(forked, -2, 2);
+    struct spread uneven = spread_of(longer, -2, 2);
+
+    return even.least == even.greatest && even.strays == 1 &&
+           uneven.greatest == uneven.least + 1;
 }
 
 int main(int words, char **word)
 {
     const struct engine *engine = engine_named(words > 1 ? word[1] : "otto");
     struct sigaction action = { .sa_sigaction = step, .sa_flags = SA_SIGINFO };
+    struct spread found;
 
     if (words > 2 || engine == NULL) {
         fprintf(stderr, "spread [ENGINE]\n");
         return 2;
     }
-    entry = (uintptr_t)engine->compress;
-    if (sigaction(SIGTRAP, &action, NULL) != 0) {
-        perror("spread");
+    if (sigaction(SIGTRAP, &action, NULL) != 0 || !finds()) {
+        fprintf(stderr, "spread: single steps are not to be had here\n");
         return 2;
     }
-    return !even(engine);
+    found = spread_of(engine->compress, LEAST_SAMPLE, GREATEST_SAMPLE);
+    printf("spread compress %u %u\n", found.least, found.greatest);
+    if (found.strays != 0) {
+        printf("samples that go another way than the first: %u\n",
+               found.strays);
+    }
+    return found.least == 0 || found.least != found.greatest ||
+           found.strays != 0;
 }

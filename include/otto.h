@@ -102,8 +102,8 @@ uint32_t otto_frame(uint32_t *record, size_t words, const uint16_t *memory,
 
 /* ---- compressed samples -------------------------------------------------- */
 
-/* The code with the greatest value that is not above the sample. It takes the
-   same instructions for every sample. */
+/* The code with the greatest value that is not above the sample. The call takes
+   the same instructions for every sample. */
 uint8_t otto_compress(int16_t sample);
 
 /* The value of a code. Compressed sample memory has codes in its high bytes. */

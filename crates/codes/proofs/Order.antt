@@ -4,7 +4,7 @@
 -- above the one before are two tests that antt computes over all places. Assumes nothing.
 use mathlib.Core.Path.{_≡_, sym, ap, subst, subst₂, _∙_}
 use mathlib.Core.Bool.{Bool, true, false, cond, _&&_}
-use Prim.Native.Nat.{ℕ, zero, suc, _+_, _-_, _*_, _/_, _%_, _^_, _<_, _≤_, max}
+use Prim.Native.Nat.{ℕ, zero, suc, _+_, _-_, _*_, _/_, _%_, _<_, _≤_}
 use native.Mathlib.Nat.{le-antisymm}
 use native.Mathlib.Decide.{ℕ-discrete}
 use native.Mathlib.Omega.{arith}
@@ -15,6 +15,7 @@ use mir.Facts.{and-yes}
 use Rattle.numbers.proofs.Tests.{all, all-at, cases}
 use Rattle.numbers.proofs.Order.{≤ℤ-trans, ≤ℤ-antisym, <ℤ-≤ℤ}
 use Rattle.codes.specs.Codes.{valueOf, Compressed}
+use Rattle.codes.specs.Exponent.{spacing}
 
 -- the code at place p: 128 values below zero, the loudest first, then 128 from zero up
 codeAt : ℕ → ℕ
@@ -33,7 +34,7 @@ placeAt c =
 
 -- how far the next value is above that of a code
 unfoldable pub step : ℕ → ℕ
-step c = 2 ^ (3 + max 1 (c / 32))
+step c = spacing (c / 32)
 
 valueAt : ℕ → ℤ
 valueAt p = valueOf (codeAt p)
@@ -47,7 +48,7 @@ placed : ℕ → Bool
 placed c = ltb (placeAt c) 256 && eqb (codeAt (placeAt c)) c
 
 all-rise : T (all rises 255)
-unfolding rises valueAt codeAt step valueOf
+unfolding rises valueAt codeAt step spacing valueOf
 all-rise = tt
 
 all-placed : T (all placed 256)

@@ -1,5 +1,5 @@
--- The code of a sample, by the exponent that its magnitude takes: the mantissa is the sample divided by the exponent's power of two, cut
--- to five bits, and the code's value is that quotient times the power. Last, what readers of `Compressed` ask: no sample has two
+-- The code of a sample, by the exponent that its magnitude takes: the mantissa is the sample divided by the exponent's spacing, cut to five
+-- bits, and the code's value is that quotient times the spacing. Last, what readers of `Compressed` ask: no sample has two
 -- codes, `codeOf` is the code, and compressing an expanded code gives it back. Assumes nothing.
 use mathlib.Core.Path.{_≡_, refl, sym, ap, ap₂, subst, subst₂, _∙_}
 use mathlib.Core.Bool.{Bool, true, false, not, cond, _&&_}
@@ -17,7 +17,7 @@ use Rattle.numbers.proofs.Difference.{is-neg}
 use Rattle.numbers.proofs.Order.{≤ℤ-trans, ≤ℤ-antisym, <ℤ-≤ℤ, up-le, up-lt}
 use Rattle.numbers.proofs.Words.{floor-law, word-lt, pos-sub}
 use Rattle.codes.specs.Codes.{valueOf, Compressed, bestBelow, codeOf}
-use Rattle.codes.specs.Exponent.{Exponent}
+use Rattle.codes.specs.Exponent.{Exponent, spacing}
 use Rattle.codes.proofs.Order.{step, in-step, one-value}
 
 -- ---- a code's value by its exponent and mantissa
@@ -81,57 +81,54 @@ module _ (x : ℕ) where
       value-zero (word 5 (negsuc x)) (word-lt 5 (negsuc x)) false (le-ltb (word 5 (negsuc x)) 16 (omega (arith, below-m x w)))
       ∙ ap (λ (z : ℤ). pos 16 *ℤ z) (from-below x w)
 
--- ---- a sample's quotient by the power of two of its exponent
+-- ---- a sample's quotient by the spacing of its exponent
 
-unfoldable pub power : ℕ → ℕ
-power e = 2 ^ (3 + max 1 e)
+spacing-pos : (e : ℕ) → 0 < spacing e
+unfolding spacing
+spacing-pos e = pow-pos (3 + max 1 e)
 
-power-pos : (e : ℕ) → 0 < power e
-unfolding power
-power-pos e = pow-pos (3 + max 1 e)
-
-power-above : (e : ℕ) → 0 < e → power e ≡ 2 ^ (3 + e)
-unfolding power
-power-above e h = ap (λ (k : ℕ). 2 ^ (3 + k)) (max-eq-right h)
+spacing-above : (e : ℕ) → 0 < e → spacing e ≡ 2 ^ (3 + e)
+unfolding spacing
+spacing-above e h = ap (λ (k : ℕ). 2 ^ (3 + k)) (max-eq-right h)
 
 -- from exponent 1 on the quotient has its fifth bit, at exponent 0 it has not
-quotient-above : (t e : ℕ) → 0 < e → Exponent t e → (16 ≤ t / power e) × (t / power e < 32)
+quotient-above : (t e : ℕ) → 0 < e → Exponent t e → (16 ≤ t / spacing e) × (t / spacing e < 32)
 quotient-above t e h x =
     let p : 2 ^ (7 + e) ≡ 16 * 2 ^ (3 + e) = ap (λ (k : ℕ). 2 ^ k) (omega arith) ∙ pow-add 2 4 (3 + e) in
     let q : 2 ^ (8 + e) ≡ 32 * 2 ^ (3 + e) = ap (λ (k : ℕ). 2 ^ k) (omega arith) ∙ pow-add 2 5 (3 + e) in
-    rw (power-above e h) (le-div-iff-mul-le (pow-pos (3 + e)) .1 (omega (arith, x .least h)), div-lt-iff-lt-mul (pow-pos (3 + e)) .1 (omega (arith, x .reached)))
+    rw (spacing-above e h) (le-div-iff-mul-le (pow-pos (3 + e)) .1 (omega (arith, x .least h)), div-lt-iff-lt-mul (pow-pos (3 + e)) .1 (omega (arith, x .reached)))
 
 -- the value of the code that the exponent and the quotient make
 unfoldable pub made : ℤ → ℕ → ℕ
-made s e = 32 * e + word 5 (floorDiv s (power e))
+made s e = 32 * e + word 5 (floorDiv s (spacing e))
 
-value-made : (s : ℤ) (e : ℕ) → Exponent (mag s) e → valueOf (made s e) ≡ pos (power e) *ℤ floorDiv s (power e)
-unfolding made floorDiv power
+value-made : (s : ℤ) (e : ℕ) → Exponent (mag s) e → valueOf (made s e) ≡ pos (spacing e) *ℤ floorDiv s (spacing e)
+unfolding made floorDiv spacing
 value-made (pos t) zero x = quiet (t / 16) (omega (arith, x .reached))
 value-made (negsuc t) zero x = quiet-below (t / 16) (omega (arith, x .reached))
 value-made (pos t) (suc n) x =
     let q = quotient-above t (suc n) (omega arith) x in
-    loud (t / power (suc n)) (suc n) (omega arith) (q .0) (q .1) ∙ ap (λ (p : ℕ). pos p *ℤ pos (t / power (suc n))) (sym (power-above (suc n) (omega arith)))
+    loud (t / spacing (suc n)) (suc n) (omega arith) (q .0) (q .1) ∙ ap (λ (p : ℕ). pos p *ℤ pos (t / spacing (suc n))) (sym (spacing-above (suc n) (omega arith)))
 value-made (negsuc t) (suc n) x =
     let q = quotient-above t (suc n) (omega arith) x in
-    loud-below (t / power (suc n)) (suc n) (omega arith) (q .0) (q .1) ∙ ap (λ (p : ℕ). pos p *ℤ negsuc (t / power (suc n))) (sym (power-above (suc n) (omega arith)))
+    loud-below (t / spacing (suc n)) (suc n) (omega arith) (q .0) (q .1) ∙ ap (λ (p : ℕ). pos p *ℤ negsuc (t / spacing (suc n))) (sym (spacing-above (suc n) (omega arith)))
 
 made-small : (s : ℤ) (e : ℕ) → e < 8 → made s e < 256
 unfolding made
-made-small s e h = omega (arith, word-lt 5 (floorDiv s (power e)))
+made-small s e h = omega (arith, word-lt 5 (floorDiv s (spacing e)))
 
-step-made : (s : ℤ) (e : ℕ) → step (made s e) ≡ power e
-unfolding made step power
-step-made s e = ap (λ (k : ℕ). 2 ^ (3 + max 1 k)) (parts e (word 5 (floorDiv s (power e))) (word-lt 5 (floorDiv s (power e))) .0)
+step-made : (s : ℤ) (e : ℕ) → step (made s e) ≡ spacing e
+unfolding made step
+step-made s e = ap spacing (parts e (word 5 (floorDiv s (spacing e))) (word-lt 5 (floorDiv s (spacing e))) .0)
 
 -- it is the sample's code
 pub made-compressed : (s : ℤ) (e : ℕ) → Exponent (mag s) e → Compressed s (made s e)
 made-compressed s e x =
-    let z = pos (power e) *ℤ floorDiv s (power e) in
-    let f = floor-law s (power e) (power-pos e) in
+    let z = pos (spacing e) *ℤ floorDiv s (spacing e) in
+    let f = floor-law s (spacing e) (spacing-pos e) in
     let v = value-made s e x in
     in-step s (made s e) (made-small s e (x .most))
-    (subst₂ (λ (a b : ℤ). a ≤ℤ b) (sym v) (sym (f .0)) (up-le z (floorMod s (power e))))
+    (subst₂ (λ (a b : ℤ). a ≤ℤ b) (sym v) (sym (f .0)) (up-le z (floorMod s (spacing e))))
     (subst₂ (λ (a b : ℤ). a <ℤ b) (sym (f .0)) (ap₂ (λ (a : ℤ) (p : ℕ). a +ℤ pos p) (sym v) (sym (step-made s e))) (up-lt z (f .1)))
 
 -- ---- what the promise allows

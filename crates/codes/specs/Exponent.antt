@@ -1,9 +1,13 @@
--- The exponent of a compressed sample, by the magnitude of the sample: that of t is t, and so is that of -(t + 1). What `exponent` promises
--- to `compress`. Assumes nothing.
-use Prim.Native.Nat.{ℕ, _+_, _^_, _<_, _≤_}
+-- The exponent of a compressed sample, by the magnitude of the sample: that of t is t, and so is that of -(t + 1); and how far apart the values
+-- of an exponent's codes are. What `exponent` and `mantissa` promise to `compress`. Assumes nothing.
+use Prim.Native.Nat.{ℕ, _+_, _^_, _<_, _≤_, max}
 
 -- e is the least exponent whose codes reach as far as t
 pub record Exponent (t e : ℕ) : Type 0 where
   pub most : e < 8
   pub reached : t < 2 ^ (8 + e)
   pub least : 0 < e → 2 ^ (7 + e) ≤ t
+
+-- from one value of exponent e to the next: 2 ^ (3 + e), and at exponent 0 as at 1
+unfoldable pub spacing : ℕ → ℕ
+spacing e = 2 ^ (3 + max 1 e)

@@ -1,12 +1,12 @@
 // Compressed samples: expand a code of 8 bits, compress a sample of 16.
-// `expand` reads a table of all 256 values, whose rule is proved over the whole table. `compress` takes the same instructions for every
-// sample: it has the exponent from the processor's count of leading zeros, and no jump stands on its way.
+// `expand` reads a table of all 256 values, whose rule is proved over the whole table. `compress` has the exponent from the processor's count of
+// leading zeros, and as it is compiled it takes the same instructions for every sample, which `make -C host test` holds it to.
 ghost use mathlib.Core.Path.{_≡_};
-ghost use Prim.Native.Nat.{_+_, _-_, _^_, _<_, max};
+ghost use Prim.Native.Nat.{_-_, _<_, max};
 ghost use lib.Signed.{mag};
 ghost use Rattle.numbers.specs.Numbers.{floorDiv, word};
 ghost use Rattle.codes.specs.Codes.{valueOf, Expands, Compressed};
-ghost use Rattle.codes.specs.Exponent.{Exponent};
+ghost use Rattle.codes.specs.Exponent.{Exponent, spacing};
 
 // The value of each code, from code 0 up.
 const VALUES: [i16; 256] = [
@@ -301,7 +301,7 @@ pub fn compress(sample: i16) -> u8
     (32 * e + m) as u8
 }
 
-// The sample, or the complement of a negative one: `s >> 31` has no bit set, or every bit, which turns all of the sample's.
+// The sample, or the complement of a negative one: `s >> 31` has no bit set, or every bit, and `^` with every bit is the complement.
 fn magnitude(sample: i16) -> u32
     ensures { λ r. ⌜ (r ≡ mag sample) × (r < 32768) ⌝ }
 {
@@ -310,7 +310,7 @@ fn magnitude(sample: i16) -> u32
 }
 
 // The exponent of a sample of magnitude t: how many of the bits 8 to 14 it takes. The bits below do not matter to it; they are set, so that
-// the count is never above 24 and nothing has to be compared.
+// no more than 24 zeros are counted and no comparison is needed.
 fn exponent(t: u32) -> u32
     requires { ⌜ t < 32768 ⌝ }
     ensures { λ r. ⌜ Exponent t r ⌝ }
@@ -318,15 +318,16 @@ fn exponent(t: u32) -> u32
     24 - u32::leading_zeros(t | 255)
 }
 
-// The mantissa of a sample of exponent e: the leading bits that equal its sign are shifted out, and the five then on top are it.
+// The mantissa of a sample of exponent e: the leading bits that equal its sign are shifted out, at most 23 of its 32, and the five then on top
+// are it.
 fn mantissa(sample: i16, e: u32) -> u32
     requires { ⌜ e < 8 ⌝ }
-    ensures { λ r. ⌜ (r ≡ word 5 (floorDiv sample (2 ^ (3 + max 1 e)))) × (r < 32) ⌝ }
+    ensures { λ r. ⌜ (r ≡ word 5 (floorDiv sample (spacing e))) × (r < 32) ⌝ }
 {
     numbers::word_of(5, (sample as i32) << shift(e) >> 27)
 }
 
-// How many of a sample's 32 bits are shifted out: 24 - e, and at exponent 0 as many as at 1.
+// How many bits are shifted out: 24 - e, and at exponent 0 as many as at 1.
 fn shift(e: u32) -> u32
     requires { ⌜ e < 8 ⌝ }
     ensures { λ r. ⌜ r ≡ 24 - max 1 e ⌝ }

@@ -4,5 +4,5 @@ pub mod Order
 pub mod Within
 pub mod Local
 pub mod Words
-pub mod Count
+pub mod LeadingZeros
 pub mod LocalBits

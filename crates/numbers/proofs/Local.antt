@@ -58,14 +58,11 @@ module _ {w : Width} {m n : ℕ} {x y u v : ℤ} (a : Num w m x u) (b : Num w n 
   pub mul : T (ltb (m * n) (2 ^ hbits w)) → Done w (m * n) (x *ℤ y) (u *ℤ v)
   mul t = done t (λ i. (a .is) i *ℤ (b .is) i) (W.mul (a .size) (b .size))
 
--- a shift to the right by s, with m = 2 ^ s: by a numeral, and by any number
+-- a shift to the right by s, with m = 2 ^ s
 pub shr : {w : Width} {n : ℕ} {x u : ℤ} (m : ℕ) → Num w n x u → T (ltb 0 m && ltb (n / m + 1) (2 ^ hbits w)) → Done w (n / m + 1) (floorDiv x m) (shrZ u m)
 shr {w} {n} m a t =
     let p = and-yes (ltb 0 m) (ltb (n / m + 1) (2 ^ hbits w)) t in
-    done (p .1) (ap (λ (z : ℤ). shrZ z m) (a .is) ∙ shr-floor _ m) (W.floor-tight m (ltb→lt 0 m (p .0)) (a .size))
-
-pub shr-by : {w : Width} {n : ℕ} {x u : ℤ} (m : ℕ) → Num w n x u → T (ltb n (2 ^ hbits w)) → Done w n (floorDiv x m) (shrZ u m)
-shr-by m a t = done t (ap (λ (z : ℤ). shrZ z m) (a .is) ∙ shr-floor _ m) (W.floor m (a .size))
+    done (p .1) (ap (λ (z : ℤ). shrZ z m) (a .is) ∙ shr-floor _ m) (W.floor m (ltb→lt 0 m (p .0)) (a .size))
 
 -- a cast to a signed type
 pub cast : {w w′ : Width} {n : ℕ} {z v : ℤ} → Num w n z v → T (ltb n (2 ^ hbits w′)) → Done w′ n z v

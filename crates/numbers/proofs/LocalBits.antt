@@ -1,5 +1,5 @@
--- The bits of a signed local, of any width w. `cast-bits`, those of a parameter in a wider local; then three laws: turned by the number's sign they
--- are the bits of its magnitude; m of them, from one place up, are the word of a quotient; a shift to the left moves them up. Assumes nothing.
+-- The bits of a signed local, of any width w. `cast-bits`, those of a parameter in a wider local; then three laws: what `^` makes of a number and
+-- its sign; that m of the bits, from one place up, are the word of a quotient; and what a shift to the left brings on top. Assumes nothing.
 use mathlib.Core.Path.{_≡_, sym, ap, _∙_}
 use mathlib.Core.Bool.{Bool, true, false}
 use Prim.Native.Nat.{ℕ, suc, _+_, _-_, _*_, _/_, _%_, _^_, _≤_}
@@ -21,7 +21,7 @@ use Rattle.numbers.proofs.Words.{word-⊖}
 abbrev pub cast-bits : Width → Width → ℤ → ℕ
 cast-bits w w′ z = ofZ w′ (toZ w (ofZ w z))
 
--- `z ^ (z >> s)`, with s one less than the width: z >> s has no bit where z is not negative, and every bit where it is
+-- `z ^ (z >> s)` is the magnitude, with s one less than the width: z >> s has no bit where z is not negative, and every bit where it is
 pub xor-sign : (w : Width) {z : ℤ} → SFits w z → bitXor (ofZ w z) (ofZ w (shrZ z (2 ^ hbits w))) ≡ mag z
 xor-sign w {z = pos n} f = ap (λ (x : ℕ). bitXor n x) (div-eq-of-lt (f .sfits)) ∙ xor-zero-r n
 xor-sign w {z = negsuc n} f =

@@ -2,7 +2,7 @@
 -- an expression is a term of the expression's shape, and `fits` turns it into what an addition or a product of the code asks. Assumes nothing.
 use mathlib.Core.Path.{_≡_, refl, sym, ap, subst, _∙_}
 use Prim.Native.Nat.{ℕ, zero, suc, _+_, _-_, _*_, _/_, _^_, _<_, _≤_}
-use native.Mathlib.Nat.{div-le-self, le-div-iff-mul-le, div-mul-le-self, mul-le-mul, le-trans, le-of-lt}
+use native.Mathlib.Nat.{le-div-iff-mul-le, div-mul-le-self, mul-le-mul, le-trans, le-of-lt}
 use native.Mathlib.Omega.{arith}
 use lib.Dec.{T, ltb, leb, ltb→lt, leb→le}
 use lib.IntN.{ℤ, pos, negsuc, negℤ, natAbs, _+ℤ_, _-ℤ_, _*ℤ_}
@@ -71,16 +71,10 @@ div-mono : (m a b : ℕ) → 0 < m → a ≤ b → a / m ≤ b / m
 div-mono m a b k h = le-div-iff-mul-le k .1 (le-trans (div-mul-le-self a m) h)
 
 module _ {n : ℕ} where
-  pub floor : {z : ℤ} (m : ℕ) → Within n z → Within n (floorDiv z m)
+  pub floor : {z : ℤ} (m : ℕ) → 0 < m → Within n z → Within (n / m + 1) (floorDiv z m)
   unfolding floorDiv
-  floor {z = pos a} m h = record { within = omega (arith, div-le-self a m) }
-  floor {z = negsuc a} m h = record { within = omega (arith, div-le-self a m) }
-
-  -- tighter, where n and m are numerals
-  pub floor-tight : {z : ℤ} (m : ℕ) → 0 < m → Within n z → Within (n / m + 1) (floorDiv z m)
-  unfolding floorDiv
-  floor-tight {z = pos a} m k h = record { within = omega (arith, div-mono m a n k (h .within)) }
-  floor-tight {z = negsuc a} m k h = record { within = omega (arith, div-mono m a n k (le-of-lt (h .within))) }
+  floor {z = pos a} m k h = record { within = omega (arith, div-mono m a n k (h .within)) }
+  floor {z = negsuc a} m k h = record { within = omega (arith, div-mono m a n k (le-of-lt (h .within))) }
 
   pub fits : {w : Width} {z : ℤ} → T (ltb n (2 ^ hbits w)) → Within n z → SFits w z
   fits {w} {z = pos a} t h = record { sfits = omega (arith, ltb→lt n (2 ^ hbits w) t) }

@@ -8,18 +8,18 @@ use lib.Signed.{mag}
 use mir.Facts.{toZ-ofZ}
 use Rattle.numbers.specs.Numbers.{floorDiv, word}
 use Rattle.codes.specs.Codes.{Compressed}
-use Rattle.codes.specs.Exponent.{Exponent}
-use Rattle.codes.proofs.Samples.{power, made, made-compressed}
+use Rattle.codes.specs.Exponent.{Exponent, spacing}
+use Rattle.codes.proofs.Samples.{made, made-compressed}
 use Rattle.codes.proofs.compress.Statement.{statement}
 use Rattle.codes.proofs.compress.Tie as tie
 
 returns : tie.Need-returns
-unfolding made power
+unfolding made
 returns c =
     let s = c .before .before .before in
     let e = c .before .exponent in
     let own = toZ-ofZ (s .fits .sample) in
-    subst (λ (m : ℕ). Compressed (s .args .sample) (32 * e .result + m)) (sym (c .mantissa .ensures .0 ∙ ap (λ (z : ℤ). word 5 (floorDiv z (power (e .result)))) own))
+    subst (λ (m : ℕ). Compressed (s .args .sample) (32 * e .result + m)) (sym (c .mantissa .ensures .0 ∙ ap (λ (z : ℤ). word 5 (floorDiv z (spacing (e .result)))) own))
     (made-compressed (s .args .sample) (e .result) (subst (λ (t : ℕ). Exponent t (e .result)) (c .before .before .magnitude .ensures .0 ∙ ap mag own) (e .ensures)))
 
 pub compress-spec : {M : Type 1} → statement M

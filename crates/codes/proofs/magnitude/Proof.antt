@@ -1,4 +1,4 @@
--- `codes::magnitude` meets its contract: the sample, turned by its sign, has the bits of its magnitude. Assumes nothing.
+-- `codes::magnitude` meets its contract, by what `^` makes of the sample and its sign. Assumes nothing.
 use mathlib.Core.Path.{_≡_, ap, subst, sym, _∙_}
 use Prim.Native.Nat.{ℕ, _^_, _<_}
 use native.Mathlib.Nat.{le-of-lt}
@@ -13,8 +13,8 @@ use Rattle.numbers.proofs.LocalBits.{cast-bits, xor-sign}
 use Rattle.codes.proofs.magnitude.Statement.{statement}
 use Rattle.codes.proofs.magnitude.Tie as tie
 
-turned : {z : ℤ} → SFits w16 z → bitXor (cast-bits w16 w32 z) (ofZ w32 (shrZ (toZ w32 (cast-bits w16 w32 z)) (2 ^ 31))) ≡ mag z
-turned {z} f =
+by-sign : {z : ℤ} → SFits w16 z → bitXor (cast-bits w16 w32 z) (ofZ w32 (shrZ (toZ w32 (cast-bits w16 w32 z)) (2 ^ 31))) ≡ mag z
+by-sign {z} f =
     ap (λ (y : ℤ). bitXor (ofZ w32 y) (ofZ w32 (shrZ (toZ w32 (ofZ w32 y)) (2 ^ 31)))) (toZ-ofZ f)
     ∙ ap (λ (y : ℤ). bitXor (ofZ w32 z) (ofZ w32 (shrZ y (2 ^ 31)))) (toZ-ofZ (sfits-widen tt f))
     ∙ xor-sign w32 (sfits-widen tt f)
@@ -26,8 +26,8 @@ is-nat x f e = nat w32 32768 x tt (le-of-lt (subst (λ (n : ℕ). n < 32768) (sy
 returns : tie.Need-returns
 returns c =
     let f = c .fits .sample in
-    let e = ap natAbs (is-nat _ f (turned f) .is) ∙ turned f in
+    let e = ap natAbs (is-nat _ f (by-sign f) .is) ∙ by-sign f in
     (e, subst (λ (n : ℕ). n < 32768) (sym e) (f .sfits))
 
 pub magnitude-spec : {M : Type 1} → statement M
-magnitude-spec = tie.close (tie.spec (λ c. cast (any (c .fits .sample)) tt .asks) (λ c. as-nat (is-nat _ (c .fits .sample) (turned (c .fits .sample))) tt tt) returns)
+magnitude-spec = tie.close (tie.spec (λ c. cast (any (c .fits .sample)) tt .asks) (λ c. as-nat (is-nat _ (c .fits .sample) (by-sign (c .fits .sample))) tt tt) returns)

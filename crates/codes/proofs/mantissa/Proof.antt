@@ -15,6 +15,7 @@ use Rattle.numbers.specs.Numbers.{floorDiv, word}
 use Rattle.numbers.proofs.Within.{of-sfits}
 use Rattle.numbers.proofs.Local.{Done, any, cast, shr, within}
 use Rattle.numbers.proofs.LocalBits.{cast-bits, top-bits}
+use Rattle.codes.specs.Exponent.{spacing}
 use Rattle.codes.proofs.mantissa.Statement.{statement}
 use Rattle.codes.proofs.mantissa.Tie as tie
 
@@ -40,6 +41,7 @@ word-of-requires : tie.Need-word-of-requires
 word-of-requires c κs = (lit≤ tt, within tt (back (c .before .args .sample) (c .shift .result) .num))
 
 returns : tie.Need-returns
+unfolding spacing
 returns c =
     let s = c .before .before in
     let k = c .before .shift .result in

@@ -1,5 +1,5 @@
--- The processor's count of leading zeros, taken of a number whose n lowest bits are set, so that there is a bit to be found: it says how many bits
--- the number needs, from n on. One law, over the width k of the count. Assumes nothing.
+-- The processor's count of leading zeros, of a number t once its n lowest bits are set: how many bits t needs, from n on. One law, over the
+-- width k of the count. Assumes nothing.
 use mathlib.Core.Path.{_≡_, sym, ap, subst, _∙_}
 use Prim.Native.Nat.{ℕ, suc, _+_, _-_, _*_, _/_, _^_, _<_, _≤_}
 use native.Mathlib.Nat.{mul-le-mul-right, div-add-mod', mod-lt}
@@ -39,16 +39,22 @@ module _ (n t : ℕ) where
       let s : a * 2 ^ n ≤ t / 2 ^ n * 2 ^ n = at-most (2 ^ n) (t / 2 ^ n) a (omega (arith, set-low, pow-pos n)) in
       omega (arith, div-add-mod' t (2 ^ n))
 
--- The count leaves n + m bits of k. They hold t, and where m is not 0, no fewer do.
-pub leading-from : (k n t : ℕ) → n ≤ k → t < 2 ^ k
-    → (m : ℕ) × (leadingZeros k (bitOr t (2 ^ n - 1)) + (n + m) ≡ k) × (t < 2 ^ (n + m)) × (0 < m → 2 ^ (n + m) ≤ 2 * t)
+-- z, a count of zeros in k bits, leaves n + more of them. They hold t, and where there are more than n, no fewer do.
+pub record Counted (k n t z : ℕ) : Type 0 where
+  pub more : ℕ
+  pub rest : z + (n + more) ≡ k
+  pub holds : t < 2 ^ (n + more)
+  pub fewest : 0 < more → 2 ^ (n + more) ≤ 2 * t
+
+pub leading-from : (k n t : ℕ) → n ≤ k → t < 2 ^ k → Counted k n t (leadingZeros k (bitOr t (2 ^ n - 1)))
 leading-from k n t h b =
     let x = bitOr t (2 ^ n - 1) in
     let up : 2 ^ n ≤ 2 ^ k = pow-mono h in
     let l = leading-length k x (or-lt k t (2 ^ n - 1) b (omega (arith, ones-lt n))) in
-    let is : l .0 ≡ n + (l .0 - n) = omega (arith, long n t (l .0) (l .2)) in (
-      l .0 - n,
-      ap (λ (j : ℕ). leadingZeros k x + j) (sym is) ∙ l .1,
-      subst (λ (j : ℕ). t < 2 ^ j) is (omega (arith, over n t, l .2)),
-      least n t (l .0 - n) (subst (λ (j : ℕ). 2 ^ j ≤ 2 * x + 1) is (l .3)),
-    )
+    let is : l .0 ≡ n + (l .0 - n) = omega (arith, long n t (l .0) (l .2)) in
+    record {
+      more = l .0 - n;
+      rest = ap (λ (j : ℕ). leadingZeros k x + j) (sym is) ∙ l .1;
+      holds = subst (λ (j : ℕ). t < 2 ^ j) is (omega (arith, over n t, l .2));
+      fewest = least n t (l .0 - n) (subst (λ (j : ℕ). 2 ^ j ≤ 2 * x + 1) is (l .3));
+    }
