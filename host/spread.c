@@ -2,8 +2,8 @@
  * spread [ENGINE]: counts the instructions that an engine, the library where
  * none is named, takes to compress each of the 65,536 samples, and prints the
  * least number and the greatest. Fails where they differ, where a sample goes
- * another way through the code than the first one did, and where nothing can
- * be counted.
+ * another way through the code than the first one did or one too long to
+ * follow, and where it does not find out two functions that are not even.
  *
  * Each call is run in single steps: while the trap flag is set, the processor
  * stops before every instruction, and a handler looks where it is. The number
@@ -19,7 +19,7 @@
 
 #define LEAST_SAMPLE    (-32768)
 #define GREATEST_SAMPLE 32767
-#define MOST_STEPS      4096u /* of a way that is remembered */
+#define MOST_STEPS      4096u /* of a way that is followed */
 
 typedef uint8_t compressor(int16_t sample);
 
@@ -49,7 +49,7 @@ static void step(int number, siginfo_t *info, void *context)
         inside = 0; /* it has returned */
     }
     if (inside && steps >= MOST_STEPS) {
-        strayed = 1; /* nothing is known of a way so long */
+        strayed = 1;
     } else if (inside && way_steps == 0) {
         way[steps] = at;
     } else if (inside) {
@@ -82,7 +82,8 @@ static void step_through(compressor *function, int16_t sample)
 struct spread {
     uint32_t least;
     uint32_t greatest;
-    uint32_t strays; /* samples that go another way than the first */
+    uint32_t strays; /* samples that go another way than the first, or one
+                        too long to follow */
 };
 
 static struct spread spread_of(compressor *function, int32_t from, int32_t to)
@@ -108,21 +109,22 @@ static uint8_t forked(int16_t sample)
     return 0;
 }
 
-/* One more instruction for samples below zero. */
-static uint8_t longer(int16_t sample)
+/* Zero takes two instructions less than all others, and one takes one more. */
+static uint8_t uneven(int16_t sample)
 {
-    __asm__ volatile("test %0, %0\n\tjns 1f\n\tnop\n1:" ::"r"(sample) : "cc");
+    __asm__ volatile("test %0, %0\n\tjz 1f\n\tcmp $1, %0\n\tjne 1f\n\tnop\n"
+                     "1:" ::"r"(sample) : "cc");
     return 0;
 }
 
-/* Whether both are found out, and so single steps are to be had here. */
+/* Whether both are found out. */
 static int finds(void)
 {
-    struct spread even = spread_of(forked, -2, 2);
-    struct spread uneven = spread_of(longer, -2, 2);
+    struct spread same = spread_of(forked, -2, 2);
+    struct spread unlike = spread_of(uneven, -2, 2);
 
-    return even.least == even.greatest && even.strays == 1 &&
-           uneven.greatest == uneven.least + 1;
+    return same.least == same.greatest && same.strays == 1 &&
+           unlike.greatest == unlike.least + 3 && unlike.strays == 2;
 }
 
 int main(int words, char **word)
@@ -136,14 +138,15 @@ int main(int words, char **word)
         return 2;
     }
     if (sigaction(SIGTRAP, &action, NULL) != 0 || !finds()) {
-        fprintf(stderr, "spread: single steps are not to be had here\n");
+        fprintf(stderr, "spread: did not find out what is not even; are there "
+                        "no single steps here?\n");
         return 2;
     }
     found = spread_of(engine->compress, LEAST_SAMPLE, GREATEST_SAMPLE);
     printf("spread compress %u %u\n", found.least, found.greatest);
     if (found.strays != 0) {
-        printf("samples that go another way than the first: %u\n",
-               found.strays);
+        printf("samples that go another way than the first, or one too long "
+               "to follow: %u\n", found.strays);
     }
     return found.least == 0 || found.least != found.greatest ||
            found.strays != 0;

@@ -318,8 +318,8 @@ fn exponent(t: u32) -> u32
     24 - u32::leading_zeros(t | 255)
 }
 
-// The mantissa of a sample of exponent e: the leading bits that equal its sign are shifted out, at most 23 of its 32, and the five then on top
-// are it.
+// The mantissa of a sample of exponent e: the leading bits that equal its sign are shifted out, at most 23 of the 32 that it has as an `i32`, and
+// the five then on top are it.
 fn mantissa(sample: i16, e: u32) -> u32
     requires { ⌜ e < 8 ⌝ }
     ensures { λ r. ⌜ (r ≡ word 5 (floorDiv sample (spacing e))) × (r < 32) ⌝ }

@@ -1,5 +1,5 @@
--- The processor's count of leading zeros, of a number t once its n lowest bits are set: how many bits t needs, from n on. One law, over the
--- width k of the count. Assumes nothing.
+-- The processor's count of leading zeros, of a number t once its n lowest bits are set: taken from the width k it leaves how many bits t needs, or n
+-- where t needs fewer. One law, over the width. Assumes nothing.
 use mathlib.Core.Path.{_≡_, sym, ap, subst, _∙_}
 use Prim.Native.Nat.{ℕ, suc, _+_, _-_, _*_, _/_, _^_, _<_, _≤_}
 use native.Mathlib.Nat.{mul-le-mul-right, div-add-mod', mod-lt}

@@ -1,5 +1,6 @@
--- The bits of a signed local, of any width w. `cast-bits`, those of a parameter in a wider local; then three laws: what `^` makes of a number and
--- its sign; that m of the bits, from one place up, are the word of a quotient; and what a shift to the left brings on top. Assumes nothing.
+-- The bits of a signed local, of any width w. `cast-bits`, those of a parameter in a local of another width; then three laws: what `^` makes of a
+-- number and its sign; that m of the bits, from any place up, are the word of a quotient; and what a shift to the left brings on top. Assumes
+-- nothing.
 use mathlib.Core.Path.{_≡_, sym, ap, _∙_}
 use mathlib.Core.Bool.{Bool, true, false}
 use Prim.Native.Nat.{ℕ, suc, _+_, _-_, _*_, _/_, _%_, _^_, _≤_}
@@ -39,7 +40,7 @@ bits-less w a f = by (ltb a (2 ^ hbits w))
     by false = (1, sym (is-neg a (1 * 2 ^ bits w) (2 ^ bits w - suc a) (omega (arith, f .fits))))
 
 -- m of its bits, from bit i up, are the word of its number divided by 2 ^ i
-pub bits-from : (w : Width) (a : ℕ) → Fits w a → (m i : ℕ) → m + i ≤ bits w → word m (floorDiv (toZ w a) (2 ^ i)) ≡ a / 2 ^ i % 2 ^ m
+bits-from : (w : Width) (a : ℕ) → Fits w a → (m i : ℕ) → m + i ≤ bits w → word m (floorDiv (toZ w a) (2 ^ i)) ≡ a / 2 ^ i % 2 ^ m
 bits-from w a f m i h =
     let c = bits-less w a f in
     let j = bits w - m - i in

@@ -15,7 +15,7 @@ use Rattle.codes.proofs.exponent.Tie as tie
 zeros : (t : ℕ) → t < 32768 → Counted 32 8 t (leadingZeros 32 (bitOr t 255))
 zeros t b = leading-from 32 8 t (omega arith) (omega arith)
 
--- the bits that it leaves, 8 not counted, are the exponent
+-- how many bits the zeros leave, less 8, is the exponent
 is-exponent : (t z e : ℕ) → t < 32768 → (c : Counted 32 8 t z) → e ≡ c .more → Exponent t e
 is-exponent t z e b c is = subst (Exponent t) (sym is) (record {
   most = cases (c .more) 8 (c .more < 8) (λ h. h)

@@ -29,7 +29,7 @@ back z k =
     let f = sfits-toZ {w = w32} (record { fits = mod-lt (cast-bits w16 w32 z * 2 ^ k) (pow-pos 32) }) in
     shr (2 ^ 27) (record { is = refl; size = of-sfits f }) tt
 
--- the five are those of the quotient by 2 ^ j, where the two shifts together leave j places
+-- the five are those of the quotient by 2 ^ j, where k places to the left and 27 to the right come to j to the right
 top-five : {z : ℤ} (j k : ℕ) → SFits w16 z → j + k ≡ 27 → word 5 (floorDiv (shifted z k) (2 ^ 27)) ≡ word 5 (floorDiv z (2 ^ j))
 top-five {z} j k f e =
     let d = cast (any f) tt in
