@@ -1,9 +1,10 @@
 /*
  * spread [ENGINE]: counts the instructions that an engine, the library where
  * none is named, takes to compress each of the 65,536 samples, and prints the
- * least number and the greatest. Fails where they differ, where a sample goes
- * another way through the code than the first one did or one too long to
- * follow, and where it does not find out two functions that are not even.
+ * least number and the greatest. Fails where they differ or are 0, where a
+ * sample goes another way through the code than the first one did or one too
+ * long to follow, and where its own trials, `forked` and `uneven`, are not
+ * found out.
  *
  * Each call is run in single steps: while the trap flag is set, the processor
  * stops before every instruction, and a handler looks where it is. The number
@@ -101,7 +102,7 @@ static struct spread spread_of(compressor *function, int32_t from, int32_t to)
     return found;
 }
 
-/* Zero goes another way than all others, and one as long. */
+/* Sample 0 goes another way than all others, of the same length. */
 static uint8_t forked(int16_t sample)
 {
     __asm__ volatile("test %0, %0\n\tjz 1f\n\tnop\n\tjmp 2f\n"
@@ -109,7 +110,8 @@ static uint8_t forked(int16_t sample)
     return 0;
 }
 
-/* Zero takes two instructions less than all others, and one takes one more. */
+/* Sample 0 takes two instructions less than -2 does, sample 1 one more, and
+   every other as many. */
 static uint8_t uneven(int16_t sample)
 {
     __asm__ volatile("test %0, %0\n\tjz 1f\n\tcmp $1, %0\n\tjne 1f\n\tnop\n"
@@ -138,7 +140,7 @@ int main(int words, char **word)
         return 2;
     }
     if (sigaction(SIGTRAP, &action, NULL) != 0 || !finds()) {
-        fprintf(stderr, "spread: did not find out what is not even; are there "
+        fprintf(stderr, "spread: its own trials were not found out; are there "
                         "no single steps here?\n");
         return 2;
     }

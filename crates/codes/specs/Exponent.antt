@@ -8,6 +8,6 @@ pub record Exponent (t e : ℕ) : Type 0 where
   pub reached : t < 2 ^ (8 + e)
   pub least : 0 < e → 2 ^ (7 + e) ≤ t
 
--- from the value of a code of exponent e up to the next value of any code: 2 ^ (3 + e), and at exponent 0 as at 1
+-- from the value of a code of exponent e up to the next value of any code, where there is one: 2 ^ (3 + e), and at exponent 0 as at 1
 unfoldable pub spacing : ℕ → ℕ
 spacing e = 2 ^ (3 + max 1 e)
