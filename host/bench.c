@@ -21,6 +21,7 @@ static _Alignas(16) uint32_t record[OTTO_RECORD_WORDS]; /* in every build */
 static uint16_t memory[BANK_WORDS];
 static size_t memory_words = NOISE_WORDS; /* lent */
 static int32_t output[OTTO_OUTPUT_VALUES];
+static uint32_t missing;
 
 /* ==== frames of voices on loops in noise ================================== */
 
@@ -52,7 +53,7 @@ static void set_voices(uint32_t extra, uint32_t ecount)
 static inline uint32_t one_frame(void)
 {
     return engine->frame(record, OTTO_RECORD_WORDS, memory, memory_words,
-                         output, OTTO_OUTPUT_VALUES);
+                         output, OTTO_OUTPUT_VALUES, &missing);
 }
 
 /* The sum of a run with one frame more. */

@@ -49,6 +49,15 @@ static void must(uint32_t answer)
     }
 }
 
+/* The note stays in the memory that is lent to it. */
+static void must_have(uint32_t missing)
+{
+    if (missing != 0) {
+        fprintf(stderr, "demo: %u words are missing\n", (unsigned)missing);
+        exit(1);
+    }
+}
+
 /* A register is written by its four bytes, highest first. */
 static void put(uint32_t number, uint32_t value)
 {
@@ -77,11 +86,13 @@ static void start_note(uint32_t end)
 static void play(uint32_t end)
 {
     int32_t output[OTTO_OUTPUT_VALUES];
+    uint32_t missing;
 
     start_note(end);
     for (size_t i = 0; i < FRAMES; i++) {
         must(otto_frame(record, OTTO_RECORD_WORDS, memory, MEMORY, output,
-                        OTTO_OUTPUT_VALUES));
+                        OTTO_OUTPUT_VALUES, &missing));
+        must_have(missing);
         sound[i] = (int16_t)(output[0] / 16);
     }
 }

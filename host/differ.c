@@ -17,6 +17,7 @@
 #define LEAST_BYTES  10000000u
 #define LEAST_FRAMES 200000u
 #define LEAST_FEW    1000u /* for each count of voices */
+#define LEAST_MISSED 1000u /* for each number of missing words */
 
 static void run_seed(uint64_t seed)
 {
@@ -44,6 +45,17 @@ static int few_met(const struct pair_counts *n)
     return enough;
 }
 
+/* Whether frames that missed none, one, two, three words and more were. */
+static int missed_met(const struct pair_counts *n)
+{
+    int enough = 1;
+
+    for (uint32_t missing = 0; missing < MISSED; missing++) {
+        enough = enough && n->missed[missing] >= LEAST_MISSED;
+    }
+    return enough;
+}
+
 int main(int words, char **word)
 {
     uint64_t first = number(words, word, 1, 0);
@@ -66,8 +78,12 @@ int main(int words, char **word)
     printf("differ: frames of 1 to 4 voices refused: %lu %lu %lu %lu, of 5 "
            "done: %lu\n",
            n->few[0], n->few[1], n->few[2], n->few[3], n->few[4]);
+    printf("differ: frames that missed 0 to 3 words: %lu %lu %lu %lu, more: "
+           "%lu\n",
+           n->missed[0], n->missed[1], n->missed[2], n->missed[3],
+           n->missed[4]);
     if (words == 1 && (n->bytes < LEAST_BYTES || n->frames < LEAST_FRAMES ||
-                       !few_met(n))) {
+                       !few_met(n) || !missed_met(n))) {
         printf("differ: that is too little\n");
         return 1;
     }

@@ -18,7 +18,7 @@ struct engine {
     uint32_t (*set_pot)(uint32_t *record, size_t words, uint32_t pot);
     uint32_t (*frame)(uint32_t *record, size_t words, const uint16_t *memory,
                       size_t memory_words, int32_t *output,
-                      size_t output_values);
+                      size_t output_values, uint32_t *missing);
     uint8_t (*compress)(int16_t sample);
     int16_t (*expand)(uint8_t code);
 };

@@ -43,6 +43,7 @@ static void check_at(const char *name, uint32_t a, uint32_t b, int64_t got,
 static uint32_t rec[664];           /* one word more than a record */
 static uint32_t before[664];
 static int32_t out[13];
+static uint32_t missing;            /* words, in the last frame */
 static uint16_t loud[16];           /* every word 32767 */
 static uint16_t whole[8388608];     /* the longest memory */
 
@@ -57,7 +58,7 @@ static void fresh(void)
 
 static uint32_t frame(const uint16_t *memory, size_t length)
 {
-    return reference_frame(rec, 663, memory, length, out, 12);
+    return reference_frame(rec, 663, memory, length, out, 12, &missing);
 }
 
 static uint32_t put(uint32_t address, uint32_t value)
@@ -672,10 +673,13 @@ static void refused_frame(const char *name, size_t words, size_t memory_words,
     for (place = 0; place < 13; place++) {
         out[place] = 77;
     }
+    missing = 77;
     keep();
     check(name,
-          reference_frame(rec, words, loud, memory_words, out, output_values),
+          reference_frame(rec, words, loud, memory_words, out, output_values,
+                          &missing),
           want);
+    check(name, missing, 0);
     check(name, first_change(), 664);
     for (place = 0; place < 13; place++) {
         check(name, out[place], 77);
@@ -780,7 +784,7 @@ static void five_voices(void)
     check("five voices", frame(loud, 16), 0);
     check("five voices, a step", W(0, 13), 0x0400);
     check("five voices, memory too long",
-          reference_frame(rec, 663, whole, 8388609, out, 11), 5);
+          reference_frame(rec, 663, whole, 8388609, out, 11, &missing), 5);
     check("ACTV below 4 again", put(47, 0), 0);
     check("reset, one voice", reference_reset(rec, 663), 0);
     check("ACTV after a reset", rec[643], 31);
@@ -1081,6 +1085,88 @@ static void bank_ends(void)
     check("wrap in a short memory",
           input_is(0, 0xFFFFF800u + 1024, whole, 1, 22), 1);
     memset(whole, 0, sizeof whole);
+}
+
+/* ==== frame: missing words ================================================ */
+
+/* How many words are missing where voice 0 alone runs. */
+static uint32_t missed(uint32_t cr, uint32_t accum, size_t length)
+{
+    fresh();
+    steady(0, 0, cr);
+    W(0, 13) = accum;
+    missing = 77;
+    (void)frame(whole, length);
+    return missing;
+}
+
+static void missing_words(void)
+{
+    check("memory of one word", missed(0, 0, 1), 1);
+    check("memory of two words", missed(0, 0, 2), 0);
+    check("no memory", missed(0, 0, 0), 2);
+
+    /* At the memory's end, at a whole sample and between two. */
+    check("last pair", missed(0, 14 * 2048u, 16), 0);
+    check("last pair, between", missed(0, 14 * 2048u + 2047, 16), 0);
+    check("last word", missed(0, 15 * 2048u, 16), 1);
+    check("last word, between", missed(0, 15 * 2048u + 2047, 16), 1);
+    check("past the last word", missed(0, 16 * 2048u, 16), 2);
+    check("codes", missed(0x2000, 15 * 2048u, 16), 1);
+
+    /* At the end of a bank the next word is the bank's first. */
+    check("bank 0 wraps, one word", missed(0, 0xFFFFF800u, 1), 1);
+    check("bank 0 wraps, no word", missed(0, 0xFFFFF800u, 0), 2);
+    check("bank 0 wraps, all but one", missed(0, 0xFFFFF800u, 2097151), 1);
+    check("bank 0 wraps, all", missed(0, 0xFFFFFFFFu, 2097152), 0);
+    check("bank 1, none of it", missed(0x4000, 0, 2097152), 2);
+    check("bank 1, a word of it", missed(0x4000, 0, 2097153), 1);
+    check("bank 1, two words of it", missed(0x4000, 0, 2097154), 0);
+    check("bank 2 wraps, none of it", missed(0x8000, 0xFFFFF800u, 4194304), 2);
+    check("bank 2 wraps, a word of it", missed(0x8000, 0xFFFFF800u, 4194305), 1);
+    check("bank 3 wraps, all but one", missed(0xC000, 0xFFFFF800u, 8388607), 1);
+    check("bank 3 wraps, all", missed(0xC000, 0xFFFFF800u, 8388608), 0);
+
+    /* A stopped voice asks for none, whoever stopped it. */
+    check("stopped by itself", missed(1, 0, 0), 0);
+    check("stopped by the host", missed(2, 0, 0), 0);
+    check("stopped by both", missed(3, 0, 0), 0);
+}
+
+/* All voices run beyond the memory; those that are active count. */
+static void missing_of_all(void)
+{
+    uint32_t last;
+    uint32_t voice;
+
+    for (last = 4; last < 32; last++) {
+        fresh();
+        rec[643] = last;
+        for (voice = 0; voice < 32; voice++) {
+            steady(voice, 0, 0);
+        }
+        check_at("all beyond", last, 0, frame(NULL, 0), 0);
+        check_at("all beyond", last, 1, missing, 2 * (last + 1));
+        W(3, 0) = 2;
+        check_at("one stopped", last, 0, frame(NULL, 0), 0);
+        check_at("one stopped", last, 1, missing, 2 * last);
+    }
+}
+
+/* The registers count as the frame begins. */
+static void missing_as_it_begins(void)
+{
+    fresh();
+    W(0, 0) = 0x0300u; /* it stops when it has passed END */
+    W(0, 1) = 2048;
+    W(0, 12) = 17 * 2048u;
+    W(0, 13) = 14 * 2048u;
+    check("first step", frame(loud, 16) + missing, 0);
+    check("second step", frame(loud, 16) + missing, 1);
+    check("third step", frame(loud, 16) + missing, 2);
+    check("to END, and beyond", frame(loud, 16) + missing, 2);
+    check("it has stopped", W(0, 0), 0x0301);
+    check("stopped", frame(loud, 16) + missing, 0);
 }
 
 /* ==== frame: filters ====================================================== */
@@ -1579,8 +1665,8 @@ static void (*const groups[])(void) = {
     compressed_samples, rounding, reset, validity, valid_vectors,
     valid_latches_and_signs, refusals, refused_arguments, few_voices,
     five_voices, register_map, latches, shared_latch, channels_by_byte,
-    taken_values, vector_and_flags, odd_registers, sample, bank_ends, filters,
-    pole_edges, halving, range, volume, what_sounds, written_sums, address,
+    taken_values, vector_and_flags, odd_registers, sample, bank_ends,
+    missing_words, missing_of_all, missing_as_it_begins, filters, pole_edges, halving, range, volume, what_sounds, written_sums, address,
     address_rest, ramps, slow_ramps, values_before_ramps, events,
     waiting_interrupts, idle_frames,
 };

@@ -29,11 +29,14 @@ struct lent {
     uint32_t *record;
     int32_t *output;
     uint8_t *byte;
+    uint32_t *missing;
 };
 
 #define RECORD_BYTES ((MOST_RECORD + MOST_BEHIND) * sizeof(uint32_t))
 #define OUTPUT_BYTES (MOST_OUTPUT * sizeof(int32_t))
 #define BYTE_BYTES   16u
+#define MISSING_BYTES 16u
+#define UNSET        0xEEEEEEEEu
 
 struct pair_counts pair_counts;
 
@@ -84,6 +87,9 @@ static void fresh(struct lent *lent)
         lent->output[-(ptrdiff_t)i] = (int32_t)i;
     }
     memset(lent->byte - BYTE_BYTES, 0xEE, BYTE_BYTES);
+    for (size_t i = 1; i <= MISSING_BYTES / sizeof(uint32_t); i++) {
+        lent->missing[-(ptrdiff_t)i] = UNSET;
+    }
 }
 
 /* ==== reporting =========================================================== */
@@ -171,6 +177,10 @@ static uint32_t compare(const char *call, const uint32_t answers[2])
     if (unlike(lents[0].byte, lents[1].byte, BYTE_BYTES)) {
         stop(call, "the bytes differ");
     }
+    if (unlike(lents[0].missing, lents[1].missing, MISSING_BYTES)) {
+        stop_at(call, "missing words", 0, lents[0].missing[-1],
+                lents[1].missing[-1]);
+    }
     pair_counts.refusals += answers[0] != OTTO_DONE;
     return answers[0];
 }
@@ -185,6 +195,7 @@ void pair_open(const struct engine *one, const struct engine *other)
         lents[i].edge = guarded(RECORD_BYTES);
         lents[i].output = guarded(OUTPUT_BYTES);
         lents[i].byte = guarded(BYTE_BYTES);
+        lents[i].missing = guarded(MISSING_BYTES);
     }
     fill_memory();
     (void)signal(SIGSEGV, crashed);
@@ -268,17 +279,27 @@ static void count_few(uint32_t last, uint32_t answer)
     }
 }
 
+static void count_missed(uint32_t missing, uint32_t answer)
+{
+    if (answer == OTTO_DONE) {
+        pair_counts.missed[missing < MISSED ? missing : MISSED - 1] += 1;
+    }
+}
+
 uint32_t pair_frame(size_t words, size_t memory_words, size_t output_values)
 {
     uint32_t answers[2];
 
     for (int i = 0; i < 2; i++) {
+        lents[i].missing[-1] = UNSET;
         answers[i] = engines[i]->frame(
             lents[i].record - words, words, memory_end - memory_words,
-            memory_words, lents[i].output - output_values, output_values);
+            memory_words, lents[i].output - output_values, output_values,
+            lents[i].missing - 1);
     }
     pair_counts.frames += answers[0] == OTTO_DONE;
     count_few(pair_word(WORD_ACTV), answers[0]);
+    count_missed(lents[1].missing[-1], answers[0]);
     return compare("frame", answers);
 }
 

@@ -18,12 +18,16 @@
 #define MOST_MEMORY 8388609u
 #define MOST_BEHIND 3u
 
+#define MISSED 5u /* numbers of missing words that are told apart */
+
 struct pair_counts {
     unsigned long bytes;    /* byte calls, refused or not */
     unsigned long frames;   /* frames that were done */
     unsigned long refusals; /* of every kind */
     unsigned long few[LEAST_ACTV + 1]; /* frames of 1 to 4 voices that were
                                           refused for that; of 5, done */
+    unsigned long missed[MISSED]; /* frames that were done, by how many words
+                                     were missing; the last, so many or more */
     unsigned long codes;    /* samples compressed and codes expanded */
 };
 

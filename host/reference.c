@@ -607,6 +607,26 @@ static void run_voice(uint32_t *record, uint32_t number,
     }
 }
 
+/* The words that a voice asks for and the lent memory does not have. Both of a
+   running voice count, each by its own place, whether it is heard or not. */
+static uint32_t missing_words(const uint32_t *voice, size_t memory_words)
+{
+    uint32_t base = voice[VOICE_CR] / 16384 * BANK_WORDS;
+    uint32_t index = voice[VOICE_ACCUM] / 2048;
+    uint32_t missing = 0;
+
+    if ((voice[VOICE_CR] & (CR_STP0 | CR_STP1)) != 0) {
+        return 0;
+    }
+    if (base + index >= memory_words) {
+        missing += 1;
+    }
+    if (base + (index + 1) % BANK_WORDS >= memory_words) {
+        missing += 1;
+    }
+    return missing;
+}
+
 int32_t reference_output_value(uint32_t sum)
 {
     return (int32_t)hold(signed_from_bits(sum, CHANNEL_BITS), -524288,
@@ -615,12 +635,14 @@ int32_t reference_output_value(uint32_t sum)
 
 uint32_t reference_frame(uint32_t *record, size_t words,
                          const uint16_t *memory, size_t memory_words,
-                         int32_t *output, size_t output_values)
+                         int32_t *output, size_t output_values,
+                         uint32_t *missing)
 {
     uint32_t number;
     uint32_t place;
     uint32_t answer = ask_record(record, words);
 
+    *missing = 0;
     if (answer != ANSWER_DONE) {
         return answer;
     }
@@ -632,6 +654,11 @@ uint32_t reference_frame(uint32_t *record, size_t words,
     }
     if (output_values != OUTPUT_VALUES) {
         return ANSWER_OUTPUT_LENGTH;
+    }
+
+    /* By the registers as the frame begins, before any voice has a turn. */
+    for (number = 0; number <= record[WORD_ACTV]; number++) {
+        *missing += missing_words(record + number * VOICE_WORDS, memory_words);
     }
 
     /* The active voices, lowest first. */

@@ -102,7 +102,8 @@ uint32_t reference_read(uint32_t *record, size_t words, uint32_t address,
 uint32_t reference_set_pot(uint32_t *record, size_t words, uint32_t pot);
 uint32_t reference_frame(uint32_t *record, size_t words,
                          const uint16_t *memory, size_t memory_words,
-                         int32_t *output, size_t output_values);
+                         int32_t *output, size_t output_values,
+                         uint32_t *missing);
 uint8_t reference_compress(int16_t sample);
 int16_t reference_expand(uint8_t code);
 

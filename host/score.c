@@ -150,6 +150,26 @@ static const uint32_t lowest[SET_WORDS] = {
     AT(LOWEST), AT(LOWEST + 40), AT(LOWEST)
 };
 
+/* Voices about the ends of memory and bank, the last four. Two cross the
+   memory's end, one forward and one in reverse; one stays on the last word of
+   the bank, whose next is word 0; one is in a bank that is not there. */
+static const uint32_t ends[][SET_WORDS] = {
+    { ALL_LOW | TO_CHANNEL(2), 0x0200,
+      0xE000, 0, 0xE000, 0, 0, 0xFFFF, 0, 0xFFFF, 0,
+      0, 0xFFFFFF80, AT(MEMORY_WORDS - 3) },
+    { ALL_LOW | CR_DIR | TO_CHANNEL(3), 0x0355,
+      0xE000, 0, 0xE000, 0, 0, 0xFFFF, 0, 0xFFFF, 0,
+      0, 0xFFFFFF80, AT(MEMORY_WORDS + 2) },
+    { ALL_LOW | CR_LEI | TO_CHANNEL(4), 0,
+      0xE000, 0, 0xE000, 0, 0, 0xFFFF, 0, 0xFFFF, 0,
+      0, 0xFFFFFF80, AT(BANK_WORDS - 1) },
+    { ALL_LOW | CR_LEI | CR_BS1 | TO_CHANNEL(4), 0x0800,
+      0xE000, 0, 0xE000, 0, 0, 0xFFFF, 0, 0xFFFF, 0,
+      0, 0xFFFFFF80, 0 },
+};
+
+#define END_VOICES ((uint32_t)(sizeof ends / sizeof ends[0]))
+
 /* ==== commands ============================================================ */
 
 static void put_number(uint32_t number, uint32_t bytes)
@@ -309,6 +329,32 @@ static void play_latches(void)
     get_register(PAR);
 }
 
+/* The voices about the ends: each alone, all four, and all but the last, which
+   is inactive; then they stop, one after another. */
+static void play_ends(void)
+{
+    uint32_t first = VOICES - END_VOICES;
+    uint32_t voice;
+
+    for (voice = 0; voice < END_VOICES; voice++) {
+        set_voice(first + voice, ends[voice]);
+        frames(16);
+        set_control(first + voice, CR_STP1);
+    }
+    for (voice = 0; voice < END_VOICES; voice++) {
+        set_voice(first + voice, ends[voice]);
+    }
+    frames(8);
+    put_register(ACTV, VOICES - 2);
+    frames(2);
+    put_register(ACTV, VOICES - 1);
+    for (voice = 0; voice < END_VOICES; voice++) {
+        frames(1);
+        set_control(first + voice, CR_STP1);
+    }
+    frames(1);
+}
+
 /* All voices of the table; the host answers an interrupt every fourth frame,
    so that voices wait for their turn. */
 static void play_voices(void)
@@ -406,6 +452,7 @@ static void make(void)
     play_refused();
     play_registers();
     play_latches();
+    play_ends();
     play_voices();
     play_stops();
     play_fewer();
@@ -436,10 +483,12 @@ static uint32_t number_of(const unsigned char *bytes, uint32_t count)
 static void print_frame(void)
 {
     uint32_t place;
+    uint32_t missing;
+    uint32_t answer = reference_frame(record, RECORD_WORDS, memory,
+                                      MEMORY_WORDS, output, OUTPUT_VALUES,
+                                      &missing);
 
-    printf("%" PRIu32,
-           reference_frame(record, RECORD_WORDS, memory, MEMORY_WORDS, output,
-                           OUTPUT_VALUES));
+    printf("%" PRIu32 " %" PRIu32, answer, missing);
     for (place = 0; place < OUTPUT_VALUES; place++) {
         printf(" %" PRId32, output[place]);
     }

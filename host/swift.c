@@ -272,8 +272,10 @@ static void find_lasts(uint32_t *lasts, size_t memory_words)
     }
 }
 
+/* The words that are missing are added to a number: none on the likely way. */
 static int32_t sample_of(uint32_t cr, uint32_t accum, const uint16_t *memory,
-                         size_t memory_words, const uint32_t *lasts)
+                         size_t memory_words, const uint32_t *lasts,
+                         uint32_t *missing)
 {
     uint32_t bank = (cr >> 14) * BANK_WORDS;
     uint32_t index = accum >> 11;
@@ -288,8 +290,11 @@ static int32_t sample_of(uint32_t cr, uint32_t accum, const uint16_t *memory,
         w1 = memory[at];
         w2 = memory[at + 1];
     } else {
+        uint32_t next = bank + (index + 1) % BANK_WORDS;
+
         w1 = fetch(memory, memory_words, at);
-        w2 = fetch(memory, memory_words, bank + (index + 1) % BANK_WORDS);
+        w2 = fetch(memory, memory_words, next);
+        *missing += (uint32_t)(at >= memory_words) + (next >= memory_words);
     }
     s1 = coded ? values[w1 >> 8] : (int16_t)w1;
     s2 = coded ? values[w2 >> 8] : (int16_t)w2;
@@ -451,7 +456,7 @@ static void run(uint32_t *record, uint32_t *voice, uint32_t cr, uint32_t slow,
 
 static UNFOLD void turn(uint32_t *record, uint32_t v, uint32_t slow,
                         const uint16_t *memory, size_t memory_words,
-                        const uint32_t *lasts)
+                        const uint32_t *lasts, uint32_t *missing)
 {
     uint32_t *voice = record + v * VOICE_WORDS;
     uint32_t cr = voice[VOICE_CR];
@@ -460,7 +465,8 @@ static UNFOLD void turn(uint32_t *record, uint32_t v, uint32_t slow,
     int32_t o;
 
     if (runs) {
-        x = sample_of(cr, voice[VOICE_ACCUM], memory, memory_words, lasts);
+        x = sample_of(cr, voice[VOICE_ACCUM], memory, memory_words, lasts,
+                      missing);
     }
     o = filter(voice, cr, x) >> 2;
     if (runs) {
@@ -486,13 +492,15 @@ static void close_frame(uint32_t *record, int32_t *output)
 
 static uint32_t frame(uint32_t *record, size_t words, const uint16_t *memory,
                       size_t memory_words, int32_t *output,
-                      size_t output_values)
+                      size_t output_values, uint32_t *missing)
 {
     uint32_t answer = check(record, words);
     uint32_t lasts[4];
     uint32_t active;
     uint32_t slow;
+    uint32_t missed = 0;
 
+    *missing = 0;
     if (answer != ANSWER_DONE) {
         return answer;
     }
@@ -509,9 +517,10 @@ static uint32_t frame(uint32_t *record, size_t words, const uint16_t *memory,
     slow = record[WORD_SLOW];
     find_lasts(lasts, memory_words);
     for (uint32_t v = 0; v < active; v++) {
-        turn(record, v, slow, memory, memory_words, lasts);
+        turn(record, v, slow, memory, memory_words, lasts, &missed);
     }
     close_frame(record, output);
+    *missing = missed;
     return ANSWER_DONE;
 }
 

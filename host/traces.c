@@ -266,6 +266,37 @@ static void walk_loops(void)
     }
 }
 
+/* One voice at one of the words about the end of a memory or of a bank, at a
+   whole sample or between two, plain or coded. */
+static void set_end(uint32_t v, uint32_t at, uint32_t words)
+{
+    uint32_t first = v * VOICE_WORDS;
+    uint32_t bank = at % 4;
+    uint32_t end = at / 4 % 2 == 0 ? 0 : words - bank * BANK_WORDS;
+    uint32_t between = at / 8 % 2 == 0 ? 0 : random_below(2048);
+
+    set_voice(v);
+    poke_kept(first + VOICE_CR, bank * CR_BS0 | at / 16 % 2 * CR_CMPD);
+    poke_kept(first + VOICE_ACCUM, (end + at / 32 - 2) * 2048u + between);
+}
+
+/* Each such place, and with it those of the two voices before. */
+static void walk_ends(void)
+{
+    pair_poke(WORD_ACTV, VOICES - 1);
+    for (size_t i = 0; i < COUNT(memory_lengths); i++) {
+        for (uint32_t v = 0; v < VOICES; v++) {
+            poke_kept(v * VOICE_WORDS + VOICE_CR, CR_STP0);
+        }
+        for (uint32_t at = 0; at < 4 * VOICES; at++) {
+            set_end(at % VOICES, at, (uint32_t)memory_lengths[i]);
+            poke_kept((at + VOICES - 3) % VOICES * VOICE_WORDS + VOICE_CR,
+                      random_once_in(2) ? CR_STP0 : CR_STP1);
+            (void)pair_frame(WORDS, memory_lengths[i], OTTO_OUTPUT_VALUES);
+        }
+    }
+}
+
 /* Each bank's first and last words, with memory that ends about there. */
 static void walk_banks(void)
 {
@@ -296,6 +327,7 @@ void trace_walks(void)
         walk_registers();
         walk_loops();
         walk_banks();
+        walk_ends();
     }
     walk_codes();
 }

@@ -15,7 +15,7 @@
  * A call on a record answers 0 or the number of its refusal. It asks in the
  * order in which its refusals are listed below, and a refused call changes no
  * word of the record and no value of the output; a refused otto_read sets its
- * byte to 0.
+ * byte to 0, and a refused otto_frame its number of missing words.
  */
 #ifndef OTTO_H
 #define OTTO_H
@@ -86,8 +86,15 @@ uint32_t otto_set_pot(uint32_t *record, size_t words, uint32_t pot);
 
 /*
  * Runs one frame: a turn of each active voice. output takes twelve values of
- * 20 bits, -524288 to 524287, in channel order, left before right. A voice
- * that reads beyond the lent memory reads 0.
+ * 20 bits, -524288 to 524287, in channel order, left before right.
+ *
+ * *missing is always set: to how many words of sample memory the frame asked
+ * for and missed, 0 to 64, and to 0 where the frame is refused. Each running
+ * active voice asks for two, the word that ACCUM is at, in the voice's bank,
+ * and the next, which after the bank's last word is its first; both count, also
+ * where ACCUM is at a whole sample and the next is not heard. A word beyond the
+ * lent memory is missing, and sounds as 0. So a number above 0 says that a note
+ * reads past the set that is loaded; with memory of four banks it is always 0.
  *
  * ACTV, register 11 of pages 0 to 31, is the number of the last active voice;
  * a reset makes it 31. At least five voices must be active, stopped or not, so
@@ -98,7 +105,7 @@ uint32_t otto_set_pot(uint32_t *record, size_t words, uint32_t pot);
  */
 uint32_t otto_frame(uint32_t *record, size_t words, const uint16_t *memory,
                     size_t memory_words, int32_t *output,
-                    size_t output_values);
+                    size_t output_values, uint32_t *missing);
 
 /* ---- compressed samples -------------------------------------------------- */
 

@@ -1,8 +1,8 @@
 -- Runs of calls taken apart, and a frame as one of the calls.
 -- In order: the record, the answers and the output of two runs one after the other (`run-both`, `answers-both`, `outputs-both`); a run split at
 -- a call (`outputs-at`); a frame, refused or not (`after-frame`): the record stays valid (`frame-sound`), and each shared word that no frame
--- touches stays as it was (`frame-word`); one that is not refused: what it leaves and gives (`frame-leaves`, `frame-gives`). What turns and closing leave of
--- voices and sums is `frame/proofs/Leaves`; what a byte written or read leaves is the crate `registers`. Assumes nothing.
+-- touches stays as it was (`frame-word`); one that is not refused: what it leaves, puts out and misses (`frame-leaves`, `frame-sounds`,
+-- `frame-misses`). What turns and closing leave of voices and sums is `frame/proofs/Leaves`; what a byte written or read leaves is the crate `registers`. Assumes nothing.
 use mathlib.Core.Path.{_≡_, refl, sym, ap, _∙_}
 use mathlib.Core.Logic.{_≢_}
 use mathlib.Core.List.{List, [], _∷_, _++_, append-assoc}
@@ -15,9 +15,10 @@ use Rattle.answer.specs.declared.Answer.{Answer}
 use Rattle.answer.specs.declared.Answer.the-variants.{Done}
 use Rattle.machine.specs.Words.{PAGE, IRQV, SLOW, SUMS}
 use Rattle.machine.proofs.Valid.{Sound}
-use Rattle.frame.specs.Frame.{played, heard, closed, frameAnswer, frameRecord, frameOutput}
+use Rattle.frame.specs.Missing.{missedIn}
+use Rattle.frame.specs.Frame.{played, heard, closed, frameAnswer, frameRecord, frameOutput, frameMissing}
 use Rattle.frame.proofs.Leaves.{all-turned, closed-stays, sound-closed}
-use Rattle.calls.specs.Calls.{Call, Frame, answerTo, after, outputFrom, run, answers, outputs}
+use Rattle.calls.specs.Calls.{Call, Frame, answerTo, after, givenBy, outputFrom, run, answers, outputs}
 
 -- ---- two runs one after the other
 
@@ -63,6 +64,10 @@ module _ (m memory : List ℕ) (out : List ℤ) (done : answerTo m (Frame memory
   unfolding answerTo after frameRecord
   frame-leaves = rw done
 
-  pub frame-gives : outputFrom m (Frame memory out) ≡ heard (played memory m)
+  pub frame-sounds : outputFrom m (Frame memory out) ≡ heard (played memory m)
   unfolding answerTo outputFrom frameOutput
-  frame-gives = rw done
+  frame-sounds = rw done
+
+  pub frame-misses : givenBy m (Frame memory out) ≡ missedIn memory m
+  unfolding answerTo givenBy frameMissing
+  frame-misses = rw done

@@ -4,7 +4,7 @@ use mathlib.Core.Path.{_≡_}
 use mathlib.Core.List.{List, []}
 use lib.IntN.{ℤ}
 use Rattle.answer.specs.declared.Answer.{Answer}
-use Rattle.calls.specs.Calls.{Call, Reset, Write, Read, SetPot, Frame, answerTo, after, byteFrom, outputFrom}
+use Rattle.calls.specs.Calls.{Call, Reset, Write, Read, SetPot, Frame, answerTo, after, givenBy, outputFrom}
 use Rattle.calls.specs.declared.Ask.{Ask}
 use Rattle.calls.specs.declared.Ask.the-variants as Ask
 
@@ -24,8 +24,8 @@ outputOf (Ask.SetPot p) m memory out = out
 outputOf Ask.Frame m memory out = outputFrom m (Frame memory out)
 
 -- what a call promises, whichever it is
-pub record Performs (m memory : List ℕ) (out : List ℤ) (ask : Ask) (answer : Answer) (byte : ℕ) (later : List ℕ) (sound : List ℤ) : Type 0 where
+pub record Performs (m memory : List ℕ) (out : List ℤ) (ask : Ask) (answer : Answer) (given : ℕ) (later : List ℕ) (sound : List ℤ) : Type 0 where
   pub answers : answer ≡ answerTo m (callOf ask memory out)
-  pub gives : byte ≡ byteFrom m (callOf ask memory out)
+  pub gives : given ≡ givenBy m (callOf ask memory out)
   pub leaves : later ≡ after m (callOf ask memory out)
   pub sounds : sound ≡ outputOf ask m memory out

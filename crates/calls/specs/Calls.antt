@@ -1,13 +1,13 @@
--- A call on a record, and a run of calls one after the other: what each answers and gives, and the record that it leaves. Every theorem
+-- A call on a record, and a run of calls one after the other: what each answers, gives and puts out, and the record that it leaves. Every theorem
 -- about more than one call speaks of these.
--- In order: a call; what it answers; what it leaves; what it gives; a run. Assumes nothing.
+-- In order: a call; what it answers; what it leaves; what it gives beside its answer; what it puts out; a run. Assumes nothing.
 use Prim.Native.Nat.{ℕ}
 use mathlib.Core.List.{List, [], _∷_, _++_}
 use lib.IntN.{ℤ}
 use Rattle.answer.specs.declared.Answer.{Answer}
 use Rattle.machine.specs.Reset.{resetAnswer, resetRecord}
 use Rattle.registers.specs.Access.{byteAnswer, writeRecord, readRecord, readByte, potAnswer, potRecord}
-use Rattle.frame.specs.Frame.{frameAnswer, frameRecord, frameOutput}
+use Rattle.frame.specs.Frame.{frameAnswer, frameRecord, frameOutput, frameMissing}
 
 -- a call: a write has an address and a byte, a read an address; a frame is lent sample memory and an output
 pub data Call : Type 0 where
@@ -32,13 +32,13 @@ after m (Read a) = readRecord m a
 after m (SetPot p) = potRecord m p
 after m (Frame memory out) = frameRecord m memory out
 
--- the byte that a read gives; of another call none is asked
-unfoldable pub byteFrom : List ℕ → Call → ℕ
-byteFrom m Reset = 0
-byteFrom m (Write a b) = 0
-byteFrom m (Read a) = readByte m a
-byteFrom m (SetPot p) = 0
-byteFrom m (Frame memory out) = 0
+-- the number that it gives beside its answer: a read its byte, a frame how many words were missing; of another call none is asked
+unfoldable pub givenBy : List ℕ → Call → ℕ
+givenBy m Reset = 0
+givenBy m (Write a b) = 0
+givenBy m (Read a) = readByte m a
+givenBy m (SetPot p) = 0
+givenBy m (Frame memory out) = frameMissing m memory out
 
 -- the output that a frame leaves; another call is lent none
 unfoldable pub outputFrom : List ℕ → Call → List ℤ

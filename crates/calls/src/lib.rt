@@ -10,39 +10,44 @@ pub enum Ask {
     Frame,
 }
 
+// What a call answers, and the number that it gives beside: a read its byte, a frame how many words were missing; 0 of any other.
 pub struct Reply {
     pub answer: Answer,
-    pub byte: u8,
+    pub given: u32,
 }
 
 // The call that is asked. Only a frame looks at the sample memory and the output.
 pub fn perform(m: &mut [u32], ask: Ask, memory: &[u16], out: &mut [i32]) -> Reply
-    ensures { λ r. ⌜ Performs (now (m .entry)) (now (memory .entry)) (now (out .entry)) ask (r .answer) (r .byte) (now (m .exit)) (now (out .exit)) ⌝ }
+    ensures { λ r. ⌜ Performs (now (m .entry)) (now (memory .entry)) (now (out .entry)) ask (r .answer) (r .given) (now (m .exit)) (now (out .exit)) ⌝ }
 {
     match ask {
         Ask::Reset => Reply {
             answer: machine::reset(m),
-            byte: 0,
+            given: 0,
         },
         Ask::Write(a, b) => Reply {
             answer: registers::write(m, a, b),
-            byte: 0,
+            given: 0,
         },
         Ask::Read(a) => {
             let got = registers::read(m, a);
             let answer = got.answer;
             Reply {
                 answer: answer,
-                byte: got.byte,
+                given: got.byte as u32,
             }
         }
         Ask::SetPot(p) => Reply {
             answer: registers::set_pot(m, p),
-            byte: 0,
+            given: 0,
         },
-        Ask::Frame => Reply {
-            answer: frame::frame(m, memory, out),
-            byte: 0,
-        },
+        Ask::Frame => {
+            let framed = frame::frame(m, memory, out);
+            let answer = framed.answer;
+            Reply {
+                answer: answer,
+                given: framed.missing,
+            }
+        }
     }
 }

@@ -1,5 +1,6 @@
 -- Frames computed from their definition. In order: two notes, and a record that plays some; the frame of a record; a table of chords
--- and what is heard of them, with its theorem; one note's first frame, and its second. Assumes nothing.
+-- and what is heard of them, with its theorem; one of voices and how many words they miss, with its theorem; one note's first frame, and its
+-- second. Assumes nothing.
 --
 -- The rows show what becomes of channel sums past the rails. A sum held after each voice would be heard: nine voices would give what
 -- eight do, and high and low voices together would depend on which came first.
@@ -7,7 +8,7 @@ use mathlib.Core.Path.{_≡_, refl}
 use mathlib.Core.List.{List, [], _∷_, _++_, map}
 use Prim.Native.Nat.{ℕ, suc}
 use lib.IntN.{ℤ, pos}
-use lib.ListN.{getD, replicate}
+use lib.ListN.{getD, set, replicate}
 use Rattle.numbers.specs.Numbers.{floorDiv, floorMod, minus, signed, word, held}
 use Rattle.control.specs.Control.{bitOf, flagOf, withBit, runs}
 use Rattle.filter.specs.Filter.{lowPass, highPass, coefficient, pole3, pole4, filtered}
@@ -15,16 +16,19 @@ use Rattle.volume.specs.Volume.{mantissa, exponent, volumeOf, panned}
 use Rattle.channel.specs.Channel.{mixed, putOut}
 use Rattle.ramp.specs.Ramp.{increment, ramped, slowRamped}
 use Rattle.address.specs.Address.{raised, forwardEvent, forward, stepped}
-use Rattle.sample.specs.Sample.{firstAt, secondAt, sampleOf, fetched, fraction, interpolated}
+use Rattle.sample.specs.Sample.{firstAt, secondAt, sampleOf, fetched, fraction, interpolated, missingOf}
 use Rattle.voice.specs.Turn.{lastOutputs, rampedLevels, withOutputs, moved, stoppedTurn, sampled, runningTurn, turnOf}
 use Rattle.answer.specs.declared.Answer.{Answer}
 use Rattle.answer.specs.declared.Answer.the-variants.{Done}
-use Rattle.machine.specs.Words.{ACCUM, voiceWord, voiceBits, sharedBits, bitsOf, cut, cutTo, isVector, valid}
+use Rattle.machine.specs.Words.{CR, ACCUM, ACTV, voiceWord, voiceBits, sharedBits, bitsOf, cut, cutTo, isVector, valid}
 use Rattle.machine.specs.Voices.{voiceAt, putVoice}
 use Rattle.machine.specs.Check.{checked}
 use Rattle.machine.specs.Reset.{resetAnswer, resetWord, wordsFrom, fresh}
 use Rattle.voice.specs.Voice.{wordsOf}
-use Rattle.frame.specs.Frame.{addedTo, added, signalled, turnAt, turns, heard, silenced, closed, played, frameAnswer, frameRecord, frameOutput}
+use Rattle.voice.specs.Missed.{missedBy}
+use Rattle.frame.specs.Sum.{sum}
+use Rattle.frame.specs.Missing.{missedIn}
+use Rattle.frame.specs.Frame.{addedTo, added, signalled, turnAt, turns, heard, silenced, closed, played, frameAnswer, frameRecord, frameOutput, frameMissing}
 
 -- A voice at the top of its left volume, and at volume 0 on the right, its poles filled with p. It loops from END to START 2048, and
 -- LVOL falls from one frame to the next.
@@ -51,10 +55,10 @@ abbrev pub playing : ℕ → List (List ℕ) → List ℕ
 playing v [] = fresh
 playing v (w ∷ ws) = putVoice (playing (suc v) ws) v w
 
--- what a frame answers, leaves and puts out; all that it computes by is named here, once
-unfoldable pub framed : List ℕ → Answer × (List ℕ × List ℤ)
-unfolding floorDiv floorMod signed word held bitOf flagOf withBit runs lowPass highPass coefficient pole3 pole4 filtered mantissa exponent volumeOf panned mixed putOut increment ramped slowRamped raised forwardEvent forward stepped firstAt secondAt sampleOf fetched fraction interpolated lastOutputs rampedLevels withOutputs moved stoppedTurn sampled runningTurn turnOf sharedBits bitsOf cut cutTo isVector valid voiceAt putVoice resetAnswer checked resetWord wordsFrom fresh wordsOf addedTo added signalled turnAt turns heard silenced closed played frameAnswer frameRecord frameOutput
-framed m = (frameAnswer m memory silence, (frameRecord m memory silence, frameOutput m memory silence))
+-- what a frame answers, says to be missing, leaves and puts out; all that it computes by is named here, once
+unfoldable pub framed : List ℕ → Answer × (ℕ × (List ℕ × List ℤ))
+unfolding floorDiv floorMod signed word held bitOf flagOf withBit runs lowPass highPass coefficient pole3 pole4 filtered mantissa exponent volumeOf panned mixed putOut increment ramped slowRamped raised forwardEvent forward stepped firstAt secondAt sampleOf fetched fraction interpolated lastOutputs rampedLevels withOutputs moved stoppedTurn sampled runningTurn turnOf sharedBits bitsOf cut cutTo isVector valid voiceAt putVoice resetAnswer checked resetWord wordsFrom fresh wordsOf addedTo added signalled turnAt turns heard silenced closed played frameAnswer frameRecord frameOutput missingOf missedBy sum missedIn frameMissing
+framed m = (frameAnswer m memory silence, (frameMissing m memory silence, (frameRecord m memory silence, frameOutput m memory silence)))
 
 abbrev left : List (List ℕ) → ℤ
 left voices = getD (heard (played memory (playing 0 voices))) 0 (pos 0)
@@ -73,6 +77,36 @@ pub chords-heard : map (λ (row : ℤ × ℤ). row .0) chords ≡ map (λ (row :
 unfolding chords framed
 chords-heard = refl
 
+-- ---- missing words
+
+-- The memory has twelve words. A voice that reaches its last one misses the next, which is not heard, since the voice is at a whole sample;
+-- one beyond it misses both; and the last word of the bank is missing, where the next is the bank's first, which is there.
+abbrev ends : List ℕ
+ends = note 22528 131068
+
+abbrev beyond : List ℕ
+beyond = note 24576 131068
+
+abbrev wraps : List ℕ
+wraps = note 4294965248 131068
+
+pub missed : List (ℕ × ℕ)
+missed =
+    (missedIn memory (playing 0 (high ∷ low ∷ [])), 0)
+    ∷ (missedIn memory (playing 0 (ends ∷ [])), 1)
+    ∷ (missedIn memory (playing 0 (beyond ∷ [])), 2)
+    ∷ (missedIn memory (playing 0 (wraps ∷ [])), 1)
+    ∷ (missedIn [] (playing 0 (wraps ∷ [])), 2)
+    ∷ (missedIn memory (playing 0 (set beyond CR 777 ∷ set beyond CR 778 ∷ [])), 0)
+    ∷ (missedIn memory (playing 0 (high ∷ ends ∷ beyond ∷ [])), 3)
+    ∷ (missedIn memory (playing 0 (replicate 6 beyond)), 12)
+    ∷ (missedIn memory (set (playing 0 (replicate 6 beyond)) ACTV 4), 10)
+    ∷ []
+
+pub missed-counted : map (λ (row : ℕ × ℕ). row .0) missed ≡ map (λ (row : ℕ × ℕ). row .1) missed
+unfolding missed framed
+missed-counted = refl
+
 -- ---- one note
 
 abbrev pub one : List ℕ
@@ -86,6 +120,22 @@ one-done = refl
 pub one-heard : frameOutput one memory silence ≡ pos 523248 ∷ pos 7 ∷ replicate 10 (pos 0)
 unfolding framed
 one-heard = refl
+
+-- no word is missing; where the memory ends with the word that the note is at, the next one is
+pub one-there : frameMissing one memory silence ≡ 0
+unfolding framed
+one-there = refl
+
+abbrev pub short : List ℕ
+short = replicate 6 32767
+
+pub short-done : frameAnswer one short silence ≡ Done
+unfolding framed
+short-done = refl
+
+pub one-missing : frameMissing one short silence ≡ 1
+unfolding framed
+one-missing = refl
 
 -- past END, back to START
 pub one-stepped : getD (frameRecord one memory silence) (voiceWord 0 ACCUM) 0 ≡ 2049

@@ -1,5 +1,5 @@
 -- The promises can be kept; and they leave no choice, and so no room for a wrong engine. In order: the engine of the definitions keeps
--- them; two outcomes that a promise allows are equal; two engines that keep the promises agree; a frame of one note can be lent; four
+-- them; two outcomes that a promise allows are equal; two engines that keep the promises agree; a frame of one note can be lent; five
 -- wrong engines, each of which breaks a promise in the frames of that note. Assumes nothing.
 use mathlib.Core.Path.{_≡_, refl, sym, ap, _∙_}
 use mathlib.Core.Bool.{false≢true}
@@ -14,9 +14,9 @@ use Rattle.machine.specs.Words.{ACCUM, voiceWord}
 use Rattle.machine.proofs.Valid.{is-valid}
 use Rattle.frame.specs.Frame.{frameRecord, frameOutput}
 use Rattle.frame.proofs.Answered.{done-frame}
-use Rattle.calls.specs.Calls.{answerTo, after, outputFrom}
-use Rattle.engines.specs.Engines.{U16, I32, Lent, Outcome, Engine, Meets, Keeps, defined, RefusesAll, PutsOutZeros, NeverChanges, Repeats}
-use Rattle.engines.proofs.Heard.{one, memory, silence, framed, one-done, one-heard, one-stepped, two-heard}
+use Rattle.calls.specs.Calls.{answerTo, after, givenBy, outputFrom}
+use Rattle.engines.specs.Engines.{U16, I32, Lent, Outcome, Engine, Meets, Keeps, defined, RefusesAll, PutsOutZeros, MissesNothing, NeverChanges, Repeats}
+use Rattle.engines.proofs.Heard.{one, memory, short, silence, framed, one-done, one-heard, one-missing, one-stepped, two-heard}
 use Rattle.engines.proofs.Lent.{all-joined, all-copies, valid-words, lent-again}
 use Rattle.calls.specs.declared.Ask.{Ask}
 use Rattle.calls.specs.declared.Ask.the-variants as Ask
@@ -27,7 +27,7 @@ keeps-defined m memory out ask l = record { answers = refl; gives = refl; leaves
 pub one-outcome : {m memory : List ℕ} {out : List ℤ} {ask : Ask} (o p : Outcome) → Meets m memory out ask o → Meets m memory out ask p → o ≡ p
 one-outcome o p h k =
     let a : o .answer ≡ p .answer = h .answers ∙ sym (k .answers) in
-    let b : o .byte ≡ p .byte = h .gives ∙ sym (k .gives) in
+    let b : o .given ≡ p .given = h .gives ∙ sym (k .gives) in
     let l : o .later ≡ p .later = h .leaves ∙ sym (k .leaves) in
     let s : o .sound ≡ p .sound = h .sounds ∙ sym (k .sounds) in
     rw (a, b, l, s)
@@ -47,6 +47,10 @@ one-lent = record {
   asked = tt;
 }
 
+-- and so it can with a memory that ends where the note is
+short-lent : Lent one short silence Ask.Frame
+short-lent = record { words = one-lent .words; samples = all-copies U16 6 32767 (lit< tt); values = one-lent .values; asked = tt }
+
 -- the first value heard, without its sign
 leftmost : List ℤ → ℕ
 leftmost l = natAbs (getD l 0 (pos 0))
@@ -62,6 +66,12 @@ module _ (e : Engine) (keeps : Keeps e) where
       let k = keeps one memory silence Ask.Frame one-lent in
       let z = h one memory silence one-lent (ap isDone (k .answers ∙ one-done)) in
       let p : _≡_ {A = ℕ} 523248 0 = ap leftmost (sym one-heard ∙ sym (k .sounds) ∙ z) in
+      omega arith
+
+  pub not-missing-nothing : MissesNothing e → ⊥
+  unfolding givenBy
+  not-missing-nothing h =
+      let p : _≡_ {A = ℕ} 1 0 = sym one-missing ∙ sym (keeps one short silence Ask.Frame short-lent .gives) ∙ h one short silence short-lent in
       omega arith
 
   pub not-frozen : NeverChanges e → ⊥

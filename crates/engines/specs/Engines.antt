@@ -1,5 +1,5 @@
 -- An engine as a host meets it: to each call, on what is lent, one outcome. In order: what can be lent; the engine; when it keeps the
--- promises; the engine of the definitions; four ways in which an engine is wrong. Whether it keeps them and whether it is wrong is asked
+-- promises; the engine of the definitions; five ways in which an engine is wrong. Whether it keeps them and whether it is wrong is asked
 -- of what can be lent alone, since no code is ever lent anything else. Assumes nothing.
 use mathlib.Core.Path.{_≡_}
 use mathlib.Core.Bool.{true, false}
@@ -11,7 +11,7 @@ use Rattle.numbers.specs.Numbers.{Bits}
 use Rattle.answer.specs.Answer.{isDone}
 use Rattle.answer.specs.declared.Answer.{Answer}
 use Rattle.machine.specs.Words.{OUTPUT_VALUES}
-use Rattle.calls.specs.Calls.{answerTo, after, byteFrom}
+use Rattle.calls.specs.Calls.{answerTo, after, givenBy}
 use Rattle.calls.specs.Asks.{callOf, outputOf, Performs}
 use Rattle.calls.specs.declared.Ask.{Ask}
 use Rattle.calls.specs.declared.Ask.the-variants as Ask
@@ -55,7 +55,7 @@ pub record Lent (m memory : List ℕ) (out : List ℤ) (ask : Ask) : Type 0 wher
 
 pub record Outcome : Type 0 where
   pub answer : Answer
-  pub byte : ℕ
+  pub given : ℕ
   pub later : List ℕ
   pub sound : List ℤ
 
@@ -65,7 +65,7 @@ abbrev pub Engine : Type 0
 Engine = List ℕ → List ℕ → List ℤ → Ask → Outcome
 
 abbrev pub Meets : List ℕ → List ℕ → List ℤ → Ask → Outcome → Type 0
-Meets m memory out ask o = Performs m memory out ask (o .answer) (o .byte) (o .later) (o .sound)
+Meets m memory out ask o = Performs m memory out ask (o .answer) (o .given) (o .later) (o .sound)
 
 abbrev pub Keeps : Engine → Type 0
 Keeps e = (m memory : List ℕ) (out : List ℤ) (ask : Ask) → Lent m memory out ask → Meets m memory out ask (e m memory out ask)
@@ -74,7 +74,7 @@ Keeps e = (m memory : List ℕ) (out : List ℤ) (ask : Ask) → Lent m memory o
 abbrev pub defined : Engine
 defined m memory out ask = record {
   answer = answerTo m (callOf ask memory out);
-  byte = byteFrom m (callOf ask memory out);
+  given = givenBy m (callOf ask memory out);
   later = after m (callOf ask memory out);
   sound = outputOf ask m memory out;
 }
@@ -89,6 +89,10 @@ abbrev pub PutsOutZeros : Engine → Type 0
 PutsOutZeros e =
     (m memory : List ℕ) (out : List ℤ) → Lent m memory out Ask.Frame
     → isDone (e m memory out Ask.Frame .answer) ≡ true → e m memory out Ask.Frame .sound ≡ replicate OUTPUT_VALUES (pos 0)
+
+-- every frame says that no word was missing
+abbrev pub MissesNothing : Engine → Type 0
+MissesNothing e = (m memory : List ℕ) (out : List ℤ) → Lent m memory out Ask.Frame → e m memory out Ask.Frame .given ≡ 0
 
 abbrev pub NeverChanges : Engine → Type 0
 NeverChanges e = (m memory : List ℕ) (out : List ℤ) (ask : Ask) → Lent m memory out ask → e m memory out ask .later ≡ m

@@ -17,7 +17,8 @@ use Rattle.machine.specs.Check.{wrongLength, notValid, checked}
 use Rattle.machine.proofs.Valid.{Sound}
 use Rattle.machine.proofs.Answers.{sound-tests, tests-sound}
 use Rattle.sample.specs.Sample.{MOST_MEMORY_WORDS}
-use Rattle.frame.specs.Frame.{played, closed, heard, tooFew, frameAnswer, frameRecord, frameOutput, Frames}
+use Rattle.frame.specs.Missing.{missedIn}
+use Rattle.frame.specs.Frame.{played, closed, heard, tooFew, frameAnswer, frameRecord, frameOutput, frameMissing, Frames}
 
 -- all that a frame asks of what it is lent
 pub record Ready (m memory : List ℕ) (out : List ℤ) : Type 0 where
@@ -68,18 +69,20 @@ module _ (m memory : List ℕ) (out : List ℤ) where
         values = eqb-true (length out) OUTPUT_VALUES (not-false (eqb (length out) OUTPUT_VALUES) (n .1 .1 .1 .0));
       }
 
-  pub frames-refused : (a : Answer) → a ≡ frameAnswer m memory out → isDone a ≡ false → Frames m memory out a m out
-  unfolding frameRecord frameOutput
-  frames-refused a e h = let d : isDone (frameAnswer m memory out) ≡ false = sym (ap isDone e) ∙ h in record { answers = e; leaves = rw d; gives = rw d }
+  pub frames-refused : (a : Answer) → a ≡ frameAnswer m memory out → isDone a ≡ false → Frames m memory out a 0 m out
+  unfolding frameRecord frameOutput frameMissing
+  frames-refused a e h = let d : isDone (frameAnswer m memory out) ≡ false = sym (ap isDone e) ∙ h in record { answers = e; misses = rw d; leaves = rw d; sounds = rw d }
 
-  -- a valid record of too few voices: 7, and nothing changes, whatever memory and output are lent with it
-  pub frames-few : valid m ≡ true → tooFew m ≡ true → Frames m memory out TooFewVoices m out
+  -- a valid record of too few voices: 7, no word missing, and nothing changes, whatever memory and output are lent with it
+  pub frames-few : valid m ≡ true → tooFew m ≡ true → Frames m memory out TooFewVoices 0 m out
   frames-few v k = frames-refused TooFewVoices (sym (refused-voices (tests-sound m (ap not v)) k)) refl
 
-  pub frames-done : (after : List ℕ) (sound : List ℤ) → frameAnswer m memory out ≡ Done → after ≡ closed (played memory m) → sound ≡ heard (played memory m) → Frames m memory out Done after sound
-  unfolding frameRecord frameOutput
-  frames-done after sound e p q = record { answers = sym e; leaves = rw e p; gives = rw e q }
+  pub frames-done : (missing : ℕ) (after : List ℕ) (sound : List ℤ) → frameAnswer m memory out ≡ Done
+      → missing ≡ missedIn memory m → after ≡ closed (played memory m) → sound ≡ heard (played memory m) → Frames m memory out Done missing after sound
+  unfolding frameRecord frameOutput frameMissing
+  frames-done missing after sound e k p q = record { answers = sym e; misses = rw e k; leaves = rw e p; sounds = rw e q }
 
 -- two outcomes that the promise allows are equal
-pub one-frame : {m memory : List ℕ} {out : List ℤ} {a b : Answer} {x y : List ℕ} {s t : List ℤ} → Frames m memory out a x s → Frames m memory out b y t → (a ≡ b) × ((x ≡ y) × (s ≡ t))
-one-frame p q = (p .answers ∙ sym (q .answers), (p .leaves ∙ sym (q .leaves), p .gives ∙ sym (q .gives)))
+pub one-frame : {m memory : List ℕ} {out : List ℤ} {a b : Answer} {i j : ℕ} {x y : List ℕ} {s t : List ℤ} → Frames m memory out a i x s → Frames m memory out b j y t
+    → (a ≡ b) × ((i ≡ j) × ((x ≡ y) × (s ≡ t)))
+one-frame p q = (p .answers ∙ sym (q .answers), (p .misses ∙ sym (q .misses), (p .leaves ∙ sym (q .leaves), p .sounds ∙ sym (q .sounds))))

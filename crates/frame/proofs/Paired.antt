@@ -1,11 +1,14 @@
--- One frame of two machines whose voices are in a relation that a turn keeps and in which they add the same: it puts out the same values, and
--- the relation holds after it. The voices may have other numbers, since sums may be taken in any order.
--- In order: such relations (`KeptByTurns`); what is put out (`heard-paired`); the machines after it (`closed-paired`).
+-- One frame of two machines whose voices are in a relation that a turn keeps and in which they add the same and miss as many words: it puts out
+-- the same values, misses as many words, and the relation holds after it. The voices may have other numbers, since sums may be taken in any
+-- order.
+-- In order: such relations (`KeptByTurns`); what is put out (`heard-paired`); what is missing (`missed-paired`); the machines after it
+-- (`closed-paired`).
 -- It serves relations that say the same of every voice, under one sample memory. The frame as a call is `calls/proofs/Runs`; what a frame leaves of
 -- one machine is Leaves. Assumes nothing.
 use mathlib.Core.Path.{_≡_, sym, ap, _∙_}
 use mathlib.Core.List.{List}
 use Prim.Native.Nat.{ℕ, suc, _+_, _%_, _≤_, _<_}
+use native.Mathlib.Numerals.{add-one}
 use native.Mathlib.Omega.{arith}
 use lib.Dec.{lit<, lit≤}
 use lib.ListN.{getD}
@@ -13,16 +16,20 @@ use Rattle.numbers.proofs.Tests.{cases}
 use Rattle.machine.specs.Words.{ACTV, SLOW, SUMS}
 use Rattle.machine.specs.Voices.{voiceAt}
 use Rattle.machine.proofs.Valid.{Sound}
+use Rattle.voice.specs.Voice.{voiceOf}
+use Rattle.voice.specs.Missed.{missedBy}
+use Rattle.frame.specs.Missing.{missedIn}
 use Rattle.frame.specs.Frame.{played, heard, closed}
 use Rattle.frame.specs.Paired.{Paired}
 use Rattle.frame.proofs.Keeps.{active-le}
 use Rattle.frame.proofs.Sum.{sum-ext, sum-renumbered, maps-outside}
 use Rattle.frame.proofs.Leaves.{wordsAfter, share, shares, Turned, slow-stays, all-turned, closed-voice, closed-slow, closed-sum, closed-stays, heard-same}
 
--- a turn keeps P, and two voices in P add the same to each sum
+-- a turn keeps P, and two voices in P add the same to each sum and miss as many words
 pub record KeptByTurns (P : List ℕ → List ℕ → Type 0) : Type 0 where
   pub turns : (memory : List ℕ) (slow : ℕ) {w x : List ℕ} → P w x → P (wordsAfter memory slow w) (wordsAfter memory slow x)
   pub adds : (memory : List ℕ) (slow : ℕ) {w x : List ℕ} → P w x → (i : ℕ) → share memory slow w i ≡ share memory slow x i
+  pub misses : (memory : List ℕ) {w x : List ℕ} → P w x → missedBy memory (voiceOf w) ≡ missedBy memory (voiceOf x)
 
 module _ {P : List ℕ → List ℕ → Type 0} (K : KeptByTurns P) (memory : List ℕ) {s : ℕ → ℕ} {m n : List ℕ} (sm : Sound m) (sn : Sound n)
     (into : (v : ℕ) → v < 32 → s v < 32) (one-to-one : (v u : ℕ) → v < 32 → u < 32 → s v ≡ s u → v ≡ u)
@@ -68,6 +75,14 @@ module _ {P : List ℕ → List ℕ → Type 0} (K : KeptByTurns P) (memory : Li
 
   pub heard-paired : heard (played memory m) ≡ heard (played memory n)
   heard-paired = heard-same (played memory m) (played memory n) (tm .sound .size) (tn .sound .size) same-sums
+
+  -- nor the order in which their missing words are counted
+  pub missed-paired : missedIn memory m ≡ missedIn memory n
+  unfolding missedIn count
+  missed-paired = rw (← M .active, add-one)
+      (sum-ext count (λ v. missedBy memory (voiceOf (voiceAt m v))) (λ v. missedBy memory (voiceOf (voiceAt n (s v))))
+      (λ v l. K .misses memory (M .voices v (omega (arith, count-le))))
+      ∙ sum-renumbered count s into-active active-once (λ v. missedBy memory (voiceOf (voiceAt n v))))
 
   turned-voices : (v : ℕ) → v < 32 → P (voiceAt (played memory m) v) (voiceAt (played memory n) (s v))
   turned-voices v h = cases v count (P (voiceAt (played memory m) v) (voiceAt (played memory n) (s v)))

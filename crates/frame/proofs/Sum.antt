@@ -1,7 +1,7 @@
 -- Sums over the numbers below k, and that a renumbering of these leaves them as they were. It is asked to lead to numbers below k, and to be
 -- one-to-one; that it is onto is counted here.
--- In order: sums (`sum`, `sum-ext`); a number that is hit or missed; how often a map hits a number; the two laws (`sum-renumbered`,
--- `maps-outside`). That sums of channels may be taken in any order is `channel/proofs/Laws`. Assumes nothing.
+-- In order: sums (`sum-ext`, `sum-most`, `sum-none`, `none-summed`); a number that is hit or missed; how often a map hits a number; the two
+-- laws (`sum-renumbered`, `maps-outside`). That sums of channels may be taken in any order is `channel/proofs/Laws`. Assumes nothing.
 use mathlib.Core.Path.{_≡_, refl, sym, ap, _∙_}
 use mathlib.Core.Bool.{cond}
 use Prim.Native.Nat.{ℕ, zero, suc, _+_, _*_, _≤_, _<_}
@@ -10,12 +10,9 @@ use native.Mathlib.Omega.{arith}
 use lib.Dec.{eqb}
 use borrow.Author.Tests.{eqb-true, eqb-false, ne-eqb}
 use Rattle.numbers.proofs.Tests.{split, cases}
+use Rattle.frame.specs.Sum.{sum}
 
 -- ---- sums
-
-unfoldable pub sum : ℕ → (ℕ → ℕ) → ℕ
-sum zero f = 0
-sum (suc k) f = sum k f + f k
 
 pub sum-ext : (k : ℕ) (f g : ℕ → ℕ) → ((v : ℕ) → v < k → f v ≡ g v) → sum k f ≡ sum k g
 unfolding sum
@@ -26,6 +23,23 @@ sum-add : (k : ℕ) (f g : ℕ → ℕ) → sum k (λ v. f v + g v) ≡ sum k f 
 unfolding sum
 sum-add zero f g = refl
 sum-add (suc k) f g = omega (arith, sum-add k f g)
+
+-- of numbers that are at most c
+pub sum-most : (k c : ℕ) (f : ℕ → ℕ) → ((v : ℕ) → v < k → f v ≤ c) → sum k f ≤ k * c
+unfolding sum
+sum-most zero c f h = omega arith
+sum-most (suc k) c f h = omega (arith, sum-most k c f (λ v l. h v (omega arith)), h k (omega arith))
+
+-- it is 0 where each number is, and nowhere else
+pub sum-none : (k : ℕ) (f : ℕ → ℕ) → ((v : ℕ) → v < k → f v ≡ 0) → sum k f ≡ 0
+unfolding sum
+sum-none zero f h = refl
+sum-none (suc k) f h = omega (arith, sum-none k f (λ v l. h v (omega arith)), h k (omega arith))
+
+pub none-summed : (k : ℕ) (f : ℕ → ℕ) → sum k f ≡ 0 → (v : ℕ) → v < k → f v ≡ 0
+unfolding sum
+none-summed zero f e v l = absurd (not-suc-le-zero l)
+none-summed (suc k) f e v l = cases v k (f v ≡ 0) (λ h. none-summed k f (omega arith) v h) (λ h. let q : v ≡ k = omega arith in rw q (omega arith))
 
 -- of a number that does not depend on v
 sum-of : (k c : ℕ) → sum k (λ v. c) ≡ k * c
@@ -81,9 +95,7 @@ never zero s u h = refl
 never (suc j) s u h = omega (arith, never j s u (λ v l. h v (omega arith)), missed u (s j) (h j (omega arith)))
 
 sum-below : (k : ℕ) (c : ℕ → ℕ) → ((u : ℕ) → u < k → c u ≤ 1) → sum k c ≤ k
-unfolding sum
-sum-below zero c h = omega arith
-sum-below (suc k) c h = omega (arith, sum-below k c (λ u l. h u (omega arith)), h k (omega arith))
+sum-below k c h = omega (arith, sum-most k 1 c h)
 
 -- k numbers, each at most 1, whose sum is k: each is 1
 all-one : (k : ℕ) (c : ℕ → ℕ) → ((u : ℕ) → u < k → c u ≤ 1) → sum k c ≡ k → (u : ℕ) → u < k → c u ≡ 1

@@ -1,5 +1,6 @@
 -- One frame over the record: the turns of voices 0 to ACTV, and the closing.
--- In order: a voice added to its channel; the interrupt step; one turn; the turns; the closing; the call. Assumes nothing.
+-- In order: a voice added to its channel; the interrupt step; one turn; the turns; the closing; the call. How many words its voices miss is
+-- specs/Missing. Assumes nothing.
 use mathlib.Core.Path.{_≡_}
 use Prim.Native.Nat.{ℕ, zero, suc, _+_, _*_, _%_}
 use mathlib.Core.Bool.{Bool, cond, not, _&&_}
@@ -19,6 +20,7 @@ use Rattle.machine.specs.Check.{wrongLength, notValid}
 use Rattle.sample.specs.Sample.{MOST_MEMORY_WORDS}
 use Rattle.voice.specs.Turn.{turnOf}
 use Rattle.voice.specs.Voice.{voiceOf, wordsOf}
+use Rattle.frame.specs.Missing.{missedIn}
 
 -- ---- one turn
 
@@ -92,8 +94,13 @@ frameRecord m memory out = cond (isDone (frameAnswer m memory out)) (closed (pla
 unfoldable pub frameOutput : List ℕ → List ℕ → List ℤ → List ℤ
 frameOutput m memory out = cond (isDone (frameAnswer m memory out)) (heard (played memory m)) out
 
--- what a frame promises: its answer, the record afterwards and the output afterwards
-pub record Frames (m memory : List ℕ) (out : List ℤ) (answer : Answer) (after : List ℕ) (sound : List ℤ) : Type 0 where
+-- how many words were missing, which a refused frame says of none
+unfoldable pub frameMissing : List ℕ → List ℕ → List ℤ → ℕ
+frameMissing m memory out = cond (isDone (frameAnswer m memory out)) (missedIn memory m) 0
+
+-- what a frame promises: its answer, the number of missing words, the record afterwards and the output afterwards
+pub record Frames (m memory : List ℕ) (out : List ℤ) (answer : Answer) (missing : ℕ) (after : List ℕ) (sound : List ℤ) : Type 0 where
   pub answers : answer ≡ frameAnswer m memory out
+  pub misses : missing ≡ frameMissing m memory out
   pub leaves : after ≡ frameRecord m memory out
-  pub gives : sound ≡ frameOutput m memory out
+  pub sounds : sound ≡ frameOutput m memory out

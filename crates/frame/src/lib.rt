@@ -1,32 +1,49 @@
 // One frame over the record: the turns of voices 0 to ACTV, and the closing.
-// A voice's twenty words are lent to its turn as a part of the record; what it adds to its channel comes back by value, and is added here.
+// A voice's twenty words are lent to its turn as a part of the record; what it adds to its channel comes back by value, and is added here. The
+// number of missing words is lent to each turn, which adds its own.
 ghost use mathlib.Core.Path.{_≡_};
 ghost use mathlib.Core.Bool.{true};
 ghost use mathlib.Core.List.{map};
-ghost use Prim.Native.Nat.{ℕ, _+_, _*_, _%_, _<_};
+ghost use Prim.Native.Nat.{ℕ, _+_, _*_, _%_, _^_, _<_};
 ghost use lib.ListN.{length, getD, replicate};
 ghost use Rattle.numbers.specs.Numbers.{Within};
 ghost use Rattle.codes.specs.Codes.{Expands};
 ghost use Rattle.channel.specs.Channel.{putOut};
 ghost use Rattle.machine.specs.Words.{RECORD_WORDS, VOICES, SLOW, SUMS, OUTPUT_VALUES, valid};
 ghost use Rattle.sample.specs.Lasts.{Lasts};
+ghost use Rattle.voice.specs.Voice.{voiceOf};
+ghost use Rattle.voice.specs.Missed.{missedBy};
+ghost use Rattle.machine.specs.Voices.{voiceAt};
+ghost use Rattle.frame.specs.Missing.{missedIn};
 ghost use Rattle.frame.specs.Frame.{addedTo, added, signalled, turnAt, played, heard, closed, frameAnswer, Frames};
 use answer::Answer;
 
 // The least ACTV that a frame takes: five active voices.
 const LEAST_ACTV: u32 = 4;
 
+// What a frame answers, and how many words of sample memory its running voices asked for and missed.
+pub struct Framed {
+    pub answer: Answer,
+    pub missing: u32,
+}
+
 // One frame: twelve values in channel order, left before right.
-pub fn frame(m: &mut [u32], memory: &[u16], out: &mut [i32]) -> Answer
-    ensures { λ r. ⌜ Frames (now (m .entry)) (now (memory .entry)) (now (out .entry)) r (now (m .exit)) (now (out .exit)) ⌝ }
+pub fn frame(m: &mut [u32], memory: &[u16], out: &mut [i32]) -> Framed
+    ensures { λ r. ⌜ Frames (now (m .entry)) (now (memory .entry)) (now (out .entry)) (r .answer) (r .missing) (now (m .exit)) (now (out .exit)) ⌝ }
 {
     let a = refusal(m, memory, out);
     let Answer::Done = a else {
-        return a;
+        return Framed {
+            answer: a,
+            missing: 0,
+        };
     };
-    play(m, memory);
+    let missing = play(m, memory);
     close(m, out);
-    Answer::Done
+    Framed {
+        answer: Answer::Done,
+        missing: missing,
+    }
 }
 
 // Why a frame is refused: the record asked first, then how many voices it has active, the memory, and the output; Done where it is not.
@@ -49,34 +66,46 @@ fn refusal(m: &[u32], memory: &[u16], out: &[i32]) -> Answer
     Answer::Done
 }
 
-// The turns of voices 0 to ACTV. What all turns share is made once here and lent to each: of each bank the last word that is lent, and the
-// table of codes.
-fn play(m: &mut [u32], memory: &[u16])
+// The turns of voices 0 to ACTV, and how many words they miss together. What all turns share is made once here and lent to each: of each bank
+// the last word that is lent, and the table of codes.
+fn play(m: &mut [u32], memory: &[u16]) -> u32
     requires { ⌜ valid (now m) ≡ true ⌝ }
-    ensures { λ _. ⌜ now (m .exit) ≡ played (now (memory .entry)) (now (m .entry)) ⌝ }
+    ensures { λ r. ⌜ (now (m .exit) ≡ played (now (memory .entry)) (now (m .entry))) × (r ≡ missedIn (now (memory .entry)) (now (m .entry))) ⌝ }
 {
     let lasts = sample::lasts(memory.len());
     let table = codes::values();
     let slow = m[machine::SLOW];
     let actv = m[machine::ACTV];
     let n = count(actv);
+    let mut missing: u32 = 0;
     for v in 0..n {
-        turn(m, v, slow, memory, &lasts, &table);
+        turn(m, v, slow, memory, &lasts, &table, &mut missing);
     }
+    missing
 }
 
-// The turn of voice v.
-fn turn(m: &mut [u32], v: usize, slow: u32, memory: &[u16], lasts: &[usize; 4], table: &[i16; 256])
+// The turn of voice v. The words that it misses are added to a number.
+fn turn(
+    m: &mut [u32],
+    v: usize,
+    slow: u32,
+    memory: &[u16],
+    lasts: &[usize; 4],
+    table: &[i16; 256],
+    missing: &mut u32,
+)
     requires { ⌜ valid (now m) ≡ true ⌝ }
     requires { ⌜ v < VOICES ⌝ }
     requires { ⌜ slow ≡ getD (now m) SLOW 0 ⌝ }
     requires { ⌜ Lasts (length (now memory)) (now lasts) ⌝ }
     requires { ⌜ Expands (now table) ⌝ }
+    requires { ⌜ now missing + 2 < 2 ^ 32 ⌝ }
     ensures { λ _. ⌜ now (m .exit) ≡ turnAt (now (memory .entry)) v (now (m .entry)) ⌝ }
+    ensures { λ _. ⌜ now (missing .exit) ≡ now (missing .entry) + missedBy (now (memory .entry)) (voiceOf (voiceAt (now (m .entry)) v)) ⌝ }
 {
     let first = machine::VOICE_WORDS * v;
     let end = first + machine::VOICE_WORDS;
-    let added = voice::turn(&mut m[first..end], slow, memory, lasts, table);
+    let added = voice::turn(&mut m[first..end], slow, memory, lasts, table, missing);
     add(m, added.channel, added.left, added.right);
     let cr = m[first + machine::CR];
     signal(m, v, cr);

@@ -8,7 +8,7 @@ use Rattle.answer.specs.declared.Answer.{Answer}
 use Rattle.machine.specs.Reset.{Resets}
 use Rattle.registers.specs.Access.{Writes, Reads, SetsPot}
 use Rattle.frame.specs.Frame.{Frames}
-use Rattle.calls.specs.Calls.{Reset, Write, SetPot, answerTo, after, byteFrom, outputFrom}
+use Rattle.calls.specs.Calls.{Reset, Write, SetPot, answerTo, after, givenBy, outputFrom}
 use Rattle.otto.specs.Promises.{Calling, Reading, Framing}
 
 module _ {m later : List ℕ} {a : Answer} {n : ℕ} (number : n ≡ answerNumber a) where
@@ -21,13 +21,18 @@ module _ {m later : List ℕ} {a : Answer} {n : ℕ} (number : n ≡ answerNumbe
   write-number address value p = record { answers = number ∙ ap answerNumber (p .answers); leaves = p .leaves }
 
   pub read-number : (address : ℕ) {b byte : ℕ} → byte ≡ b → Reads m address a b later → Reading m address n byte later
-  unfolding answerTo after byteFrom
+  unfolding answerTo after givenBy
   read-number address e p = record { calls = record { answers = number ∙ ap answerNumber (p .answers); leaves = p .leaves }; gives = e ∙ p .gives }
 
   pub pot-number : (pot : ℕ) → SetsPot m pot a later → Calling m (SetPot pot) n later
   unfolding answerTo after
   pot-number pot p = record { answers = number ∙ ap answerNumber (p .answers); leaves = p .leaves }
 
-  pub frame-number : (memory : List ℕ) (out : List ℤ) {sound : List ℤ} → Frames m memory out a later sound → Framing m memory out n later sound
-  unfolding answerTo after outputFrom
-  frame-number memory out p = record { calls = record { answers = number ∙ ap answerNumber (p .answers); leaves = p .leaves }; sounds = p .gives }
+  pub frame-number : (memory : List ℕ) (out : List ℤ) {x missing : ℕ} {sound : List ℤ} → missing ≡ x → Frames m memory out a x later sound
+      → Framing m memory out n missing later sound
+  unfolding answerTo after givenBy outputFrom
+  frame-number memory out e p = record {
+    calls = record { answers = number ∙ ap answerNumber (p .answers); leaves = p .leaves };
+    misses = e ∙ p .misses;
+    sounds = p .sounds;
+  }

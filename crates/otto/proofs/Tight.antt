@@ -12,5 +12,6 @@ one-call p q = (p .answers ∙ sym (q .answers), p .leaves ∙ sym (q .leaves))
 pub one-reading : {m : List ℕ} {address a b i j : ℕ} {x y : List ℕ} → Reading m address a i x → Reading m address b j y → (i ≡ j) × ((a ≡ b) × (x ≡ y))
 one-reading p q = (p .gives ∙ sym (q .gives), one-call (p .calls) (q .calls))
 
-pub one-framing : {m memory : List ℕ} {out : List ℤ} {a b : ℕ} {x y : List ℕ} {s t : List ℤ} → Framing m memory out a x s → Framing m memory out b y t → (s ≡ t) × ((a ≡ b) × (x ≡ y))
-one-framing p q = (p .sounds ∙ sym (q .sounds), one-call (p .calls) (q .calls))
+pub one-framing : {m memory : List ℕ} {out : List ℤ} {a b i j : ℕ} {x y : List ℕ} {s t : List ℤ} → Framing m memory out a i x s → Framing m memory out b j y t
+    → (i ≡ j) × ((s ≡ t) × ((a ≡ b) × (x ≡ y)))
+one-framing p q = (p .misses ∙ sym (q .misses), (p .sounds ∙ sym (q .sounds), one-call (p .calls) (q .calls)))

@@ -5,7 +5,7 @@ use Prim.Native.Nat.{ℕ}
 use mathlib.Core.List.{List}
 use lib.IntN.{ℤ}
 use Rattle.answer.specs.Answer.{answerNumber}
-use Rattle.calls.specs.Calls.{Call, answerTo, after, byteFrom, outputFrom, Read, Frame}
+use Rattle.calls.specs.Calls.{Call, answerTo, after, givenBy, outputFrom, Read, Frame}
 
 -- a call that is lent a record alone
 pub record Calling (m : List ℕ) (c : Call) (number : ℕ) (later : List ℕ) : Type 0 where
@@ -15,9 +15,10 @@ pub record Calling (m : List ℕ) (c : Call) (number : ℕ) (later : List ℕ) :
 -- a read, which is lent a place for its byte
 pub record Reading (m : List ℕ) (a : ℕ) (number byte : ℕ) (later : List ℕ) : Type 0 where
   pub calls : Calling m (Read a) number later
-  pub gives : byte ≡ byteFrom m (Read a)
+  pub gives : byte ≡ givenBy m (Read a)
 
--- a frame, which is lent sample memory and an output
-pub record Framing (m memory : List ℕ) (out : List ℤ) (number : ℕ) (later : List ℕ) (sound : List ℤ) : Type 0 where
+-- a frame, which is lent sample memory, an output and a place for the number of missing words
+pub record Framing (m memory : List ℕ) (out : List ℤ) (number missing : ℕ) (later : List ℕ) (sound : List ℤ) : Type 0 where
   pub calls : Calling m (Frame memory out) number later
+  pub misses : missing ≡ givenBy m (Frame memory out)
   pub sounds : sound ≡ outputFrom m (Frame memory out)

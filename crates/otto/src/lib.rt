@@ -37,10 +37,18 @@ pub extern "C" fn otto_set_pot(record: &mut [u32], pot: u32) -> u32
 }
 
 #[no_mangle]
-pub extern "C" fn otto_frame(record: &mut [u32], memory: &[u16], output: &mut [i32]) -> u32
-    ensures { λ r. ⌜ Framing (now («record» .entry)) (now (memory .entry)) (now (output .entry)) r (now («record» .exit)) (now (output .exit)) ⌝ }
+pub extern "C" fn otto_frame(
+    record: &mut [u32],
+    memory: &[u16],
+    output: &mut [i32],
+    missing: &mut u32,
+) -> u32
+    ensures { λ r. ⌜ Framing (now («record» .entry)) (now (memory .entry)) (now (output .entry)) r (now (missing .exit)) (now («record» .exit)) (now (output .exit)) ⌝ }
 {
-    answer::number(frame::frame(record, memory, output))
+    let framed = frame::frame(record, memory, output);
+    *missing = framed.missing;
+    let a = framed.answer;
+    answer::number(a)
 }
 
 #[no_mangle]

@@ -1,4 +1,4 @@
--- One frame of two machines that match: it gives the same values, and they match after it. It is the law of frames for every relation of voices,
+-- One frame of two machines that match: it puts out the same values, misses as many words, and they match after it. It is the law of frames for every relation of voices,
 -- `frame/proofs/Paired`, taken for voices that hold the same registers. Assumes nothing.
 use mathlib.Core.Path.{_≡_, sym, _∙_}
 use mathlib.Core.List.{List}
@@ -12,14 +12,18 @@ use Rattle.frame.specs.Frame.{played}
 use Rattle.frame.specs.Paired.{Paired}
 use Rattle.frame.proofs.Keeps.{sound-played}
 use Rattle.frame.proofs.Leaves.{heard-length}
-use Rattle.frame.proofs.Paired.{KeptByTurns, heard-paired, closed-paired}
+use Rattle.frame.proofs.Paired.{KeptByTurns, heard-paired, missed-paired, closed-paired}
 use Rattle.calls.specs.Calls.{Frame, answerTo, after}
-use Rattle.calls.proofs.Runs.{frame-leaves, frame-gives}
+use Rattle.calls.proofs.Runs.{frame-leaves, frame-sounds, frame-misses}
 use Rattle.renumber.specs.Demand.{Renumbering, SameVoice, Match, SameFrame}
-use Rattle.renumber.proofs.Same.{same-after, same-share}
+use Rattle.renumber.proofs.Same.{same-after, same-share, same-missing}
 
 kept : KeptByTurns SameVoice
-kept = record { turns = λ memory slow h. same-after memory slow h; adds = λ memory slow h i. same-share memory slow h i }
+kept = record {
+  turns = λ memory slow h. same-after memory slow h;
+  adds = λ memory slow h i. same-share memory slow h i;
+  misses = λ memory h. same-missing memory h;
+}
 
 module _ (memory : List ℕ) (s : ℕ → ℕ) (m n : List ℕ) (sm : Sound m) (sn : Sound n) (R : Renumbering (getD m ACTV 0) s) (M : Match s m n)
     (out out′ : List ℤ) (dm : answerTo m (Frame memory out) ≡ Done) (dn : answerTo n (Frame memory out′) ≡ Done) where
@@ -28,8 +32,9 @@ module _ (memory : List ℕ) (s : ℕ → ℕ) (m n : List ℕ) (sm : Sound m) (
 
   pub frame-same : SameFrame m n (Frame memory out) (Frame memory out′)
   frame-same = record {
-    values = frame-gives m memory out dm ∙ heard-paired kept memory sm sn (R .into) (R .one-to-one) (R .stays-active) paired ∙ sym (frame-gives n memory out′ dn);
-    twelve = rw (frame-gives m memory out dm) (heard-length (played memory m) (sound-played memory sm .size));
+    values = frame-sounds m memory out dm ∙ heard-paired kept memory sm sn (R .into) (R .one-to-one) (R .stays-active) paired ∙ sym (frame-sounds n memory out′ dn);
+    twelve = rw (frame-sounds m memory out dm) (heard-length (played memory m) (sound-played memory sm .size));
+    missing = frame-misses m memory out dm ∙ missed-paired kept memory sm sn (R .into) (R .one-to-one) (R .stays-active) paired ∙ sym (frame-misses n memory out′ dn);
   }
 
   pub frame-match : Match s (after m (Frame memory out)) (after n (Frame memory out′))

@@ -1,5 +1,6 @@
 -- Voices that hold the same registers, interrupt flags excepted.
--- In order: such voices are as good as equal; the same word stored in both leaves them so; so does a turn, in which they add the same.
+-- In order: such voices are as good as equal; the same word stored in both leaves them so; so does a turn, in which they add the same and miss
+-- as many words.
 -- Assumes nothing.
 use mathlib.Core.Path.{_≡_, sym, ap, _∙_}
 use mathlib.Core.List.{List}
@@ -13,7 +14,8 @@ use lib.Seq.{getD-set-same, getD-set-other}
 use Rattle.control.specs.Control.{bitOf}
 use Rattle.control.proofs.Agree.{channel-agrees}
 use Rattle.voice.specs.Voice.{Voice, voiceOf, wordsOf}
-use Rattle.voice.proofs.Flag.{besideCR, ButFlag, same-turn}
+use Rattle.voice.specs.Missed.{missedBy}
+use Rattle.voice.proofs.Flag.{besideCR, ButFlag, same-turn, same-missed}
 use Rattle.frame.proofs.Leaves.{wordsAfter, portion, share}
 use Rattle.renumber.specs.Demand.{SameVoice}
 
@@ -91,3 +93,6 @@ module _ (memory : List ℕ) (slow : ℕ) {w x : List ℕ} (h : SameVoice w x) w
       let t = same-turn (voiceOf w) (voiceOf x) (by-registers h) memory slow in
       let c = channel-agrees (getD w 0 0) (getD x 0 0) (h .control) in
       λ k. portion (c k) (t .left k) (t .right k) i
+
+pub same-missing : (memory : List ℕ) {w x : List ℕ} → SameVoice w x → missedBy memory (voiceOf w) ≡ missedBy memory (voiceOf x)
+same-missing memory {w} {x} h = same-missed (voiceOf w) (voiceOf x) (by-registers h) memory

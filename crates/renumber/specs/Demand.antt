@@ -17,7 +17,7 @@ use Rattle.machine.specs.Words.{VOICES, VOICE_WORDS, CR, PAGE, ACTV, SLOW, SUMS
 use Rattle.machine.specs.Voices.{voiceAt}
 use Rattle.registers.specs.Registers.{registerOf}
 use Rattle.registers.specs.declared.Register.the-variants.{Word}
-use Rattle.calls.specs.Calls.{Call, Write, Read, SetPot, Frame, answerTo, after, outputFrom, run, outputs}
+use Rattle.calls.specs.Calls.{Call, Write, Read, SetPot, Frame, answerTo, after, givenBy, outputFrom, run, outputs}
 
 -- ---- renumberings
 
@@ -128,10 +128,11 @@ Alike s (Then ps memory l) (Then qs memory′ k) = SameWrites s ps qs × (memory
 
 -- ---- what holds along them
 
--- a frame gives the same twelve values on both machines
+-- a frame puts out the same twelve values on both machines, and says of as many words that they were missing
 pub record SameFrame (m n : List ℕ) (c d : Call) : Type 0 where
   pub values : outputFrom m c ≡ outputFrom n d
   pub twelve : length (outputFrom m c) ≡ OUTPUT_VALUES
+  pub missing : givenBy m c ≡ givenBy n d
 
 -- every frame does; as it begins and after it, and after the calls that follow the last, the machines match
 abbrev pub Along : (s : ℕ → ℕ) {m n : List ℕ} {φ ψ : Phase} {t u : List Call} {l k : Log} → Trace m φ t l → Trace n ψ u k → Type 0
@@ -146,9 +147,9 @@ Along s (go-on {m = m} {t = t} memory out b e f) (go-on {m = n} {t = u} memory�
 
 -- ---- the theorem
 
--- Two valid machines whose voices match under a renumbering of that kind, and two traces that are alike under it: every frame gives the
--- same twelve values, so that the whole output is the same; and as every frame begins, after it and in the end matching voices hold the
--- same registers, interrupt flags excepted.
+-- Two valid machines whose voices match under a renumbering of that kind, and two traces that are alike under it: every frame puts out the
+-- same twelve values, so that the whole output is the same, and answers the same number of missing words; and as every frame begins, after it
+-- and in the end matching voices hold the same registers, interrupt flags excepted.
 abbrev pub Inaudible : Type 0
 Inaudible =
     (s : ℕ → ℕ) (m n : List ℕ) → valid m ≡ true → valid n ≡ true → Renumbering (getD m ACTV 0) s → Match s m n

@@ -1,19 +1,24 @@
 -- What stands between two samples of 16 bits has 18. Then what a word stands for, by the bit that says how; that no other bit matters
--- to a fetch, but those of the bank; and a word below the last of its bank that is lent. Assumes nothing.
-use mathlib.Core.Path.{_≡_, sym, ap, subst, _∙_}
-use mathlib.Core.Bool.{true, false}
+-- to it; that of the bits only the bank's matter to a fetch; a word below the last of its bank that is lent; how many of a fetch's words are
+-- missing; and that four banks have them all. Assumes nothing.
+use mathlib.Core.Path.{_≡_, refl, sym, ap, subst, _∙_}
+use mathlib.Core.Bool.{Bool, true, false, cond}
 use mathlib.Core.List.{List}
 use Prim.Native.Nat.{ℕ, _+_, _-_, _*_, _/_, _%_, _<_, _≤_}
 use native.Mathlib.Nat.{mul-le-mul-left, mul-le-mul-right, le-of-lt}
 use native.Mathlib.Omega.{arith}
+use borrow.Author.Tests.{lt-ltb, le-ltb}
 use lib.Dec.{lit<}
+use lib.ListN.{length, getD, List·getD-eq-default}
 use lib.IntN.{ℤ, pos, _+ℤ_, _-ℤ_, _*ℤ_}
 use Rattle.numbers.specs.Numbers.{floorDiv, signed, Bits}
 use Rattle.numbers.proofs.Difference.{_⊖_, ⊖-eq, ⊖-add, ⊖-sub, ⊖-mul}
 use Rattle.numbers.proofs.Words.{biased, bits-⊖, floor-up}
 use Rattle.codes.specs.Codes.{valueOf}
 use Rattle.control.specs.Control.{flagOf, bankOf, CMPD}
-use Rattle.sample.specs.Sample.{firstAt, secondAt, sampleOf, fetched, interpolated}
+use Rattle.sample.specs.declared.Word.{Word}
+use Rattle.sample.specs.declared.Words.{Words}
+use Rattle.sample.specs.Sample.{MOST_MEMORY_WORDS, wordAt, firstAt, secondAt, sampleOf, fetched, missingOf, interpolated}
 use Rattle.sample.specs.Lasts.{lastOf}
 
 -- the value between two samples that are moved up to be no numbers below zero
@@ -56,13 +61,55 @@ pub linear-word : (CR w : ℕ) → flagOf CMPD CR ≡ false → sampleOf CR w �
 unfolding sampleOf
 linear-word CR w t = rw t
 
--- a fetch depends on CMPD and the bank alone
-pub fetched-bank : (memory : List ℕ) (c d ACCUM : ℕ) → flagOf CMPD c ≡ flagOf CMPD d → bankOf c ≡ bankOf d → fetched memory c ACCUM ≡ fetched memory d ACCUM
-unfolding fetched sampleOf firstAt secondAt
-fetched-bank memory c d ACCUM e f = rw (e, f)
+-- what a word stands for depends on CMPD alone, and a fetch on the bank
+pub sample-coded : (c d w : ℕ) → flagOf CMPD c ≡ flagOf CMPD d → sampleOf c w ≡ sampleOf d w
+unfolding sampleOf
+sample-coded c d w e = rw e
+
+pub fetched-bank : (memory : List ℕ) (c d ACCUM : ℕ) → bankOf c ≡ bankOf d → fetched memory c ACCUM ≡ fetched memory d ACCUM
+unfolding fetched firstAt secondAt
+fetched-bank memory c d ACCUM e = rw e
 
 -- below the last word of the bank, the next word is the next in memory, and is lent
 pub below-last : (n b i : ℕ) {at next last : ℕ} → i < 2097152 → at ≡ b * 2097152 + i → next ≡ b * 2097152 + (i + 1) % 2097152 → last ≡ lastOf n b
     → at < last → (next ≡ at + 1) × (next < n)
 unfolding lastOf
 below-last n b i h e f g k = (omega arith, omega arith)
+
+-- ---- missing words
+
+-- a word of the memory, and one beyond it
+module _ (memory : List ℕ) (i : ℕ) where
+  pub word-there : i < length memory → record { bits = getD memory i 0; there = true } ≡ wordAt memory i
+  word-there h = rw (lt-ltb i (length memory) h)
+
+  pub word-missing : length memory ≤ i → record { bits = 0; there = false } ≡ wordAt memory i
+  word-missing h = rw (List·getD-eq-default memory 0 h, le-ltb i (length memory) h)
+
+pub same-words : {a b c d : Word} → a ≡ b → c ≡ d → _≡_ {A = Words} (record { first = a; second = c }) (record { first = b; second = d })
+same-words e f = λ i. record { first = e i; second = f i }
+
+pub one-most : (there : Bool) → cond there 0 1 ≤ 1
+one-most true = omega arith
+one-most false = omega arith
+
+one-none : (there : Bool) → _≡_ {A = ℕ} (cond there 0 1) 0 → there ≡ true
+one-none true e = refl
+one-none false e = absurd (let z : ⊥ = omega arith in z)
+
+module _ (w : Words) where
+  pub missing-most : missingOf w ≤ 2
+  unfolding missingOf
+  missing-most = omega (arith, one-most (w .first .there), one-most (w .second .there))
+
+  pub missing-none : missingOf w ≡ 0 → (w .first .there ≡ true) × (w .second .there ≡ true)
+  unfolding missingOf
+  missing-none e = (one-none (w .first .there) (omega arith), one-none (w .second .there) (omega arith))
+
+  pub missing-both : w .first .there ≡ true → w .second .there ≡ true → missingOf w ≡ 0
+  unfolding missingOf
+  missing-both p q = rw (p, q)
+
+pub within-four-banks : (CR ACCUM : ℕ) → ACCUM < 4294967296 → (firstAt CR ACCUM < MOST_MEMORY_WORDS) × (secondAt CR ACCUM < MOST_MEMORY_WORDS)
+unfolding firstAt secondAt
+within-four-banks CR ACCUM h = (omega arith, omega arith)

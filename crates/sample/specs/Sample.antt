@@ -1,14 +1,16 @@
--- The sample of a voice: the two words that it fetches from sample memory, what they stand for, and the value between them.
--- Assumes nothing.
+-- The sample of a voice: the two words that it fetches from sample memory, each with whether it was there; how many were missing; what a word
+-- stands for, and the value between two. Assumes nothing.
 use Prim.Native.Nat.{ℕ, _+_, _*_, _/_, _%_}
 use mathlib.Core.Bool.{cond}
 use mathlib.Core.List.{List}
+use lib.Dec.{ltb}
 use lib.IntN.{ℤ, pos, _+ℤ_, _-ℤ_, _*ℤ_}
-use lib.ListN.{getD}
+use lib.ListN.{length, getD}
 use Rattle.numbers.specs.Numbers.{floorDiv, signed}
 use Rattle.codes.specs.Codes.{valueOf}
 use Rattle.control.specs.Control.{flagOf, bankOf, CMPD}
-use Rattle.sample.specs.declared.Samples.{Samples}
+use Rattle.sample.specs.declared.Word.{Word}
+use Rattle.sample.specs.declared.Words.{Words}
 
 -- how many words a bank has, and how many the memory may have at most: four banks
 abbrev pub BANK_WORDS : ℕ
@@ -17,9 +19,9 @@ BANK_WORDS = 2097152
 abbrev pub MOST_MEMORY_WORDS : ℕ
 MOST_MEMORY_WORDS = 4 * BANK_WORDS
 
--- a word of the lent memory; one beyond it is 0
-abbrev pub wordAt : List ℕ → ℕ → ℕ
-wordAt memory i = getD memory i 0
+-- a word of the lent memory, and whether it is there; one beyond the memory is 0, and is not
+abbrev pub wordAt : List ℕ → ℕ → Word
+wordAt memory i = record { bits = getD memory i 0; there = ltb i (length memory) }
 
 -- the words of the first and of the second sample: one at ACCUM's whole part, in the voice's bank, and the next, which wraps within
 -- the bank
@@ -29,15 +31,16 @@ firstAt CR ACCUM = bankOf CR * BANK_WORDS + ACCUM / 2048
 unfoldable pub secondAt : ℕ → ℕ → ℕ
 secondAt CR ACCUM = bankOf CR * BANK_WORDS + (ACCUM / 2048 + 1) % BANK_WORDS
 
+unfoldable pub fetched : List ℕ → ℕ → ℕ → Words
+fetched memory CR ACCUM = record { first = wordAt memory (firstAt CR ACCUM); second = wordAt memory (secondAt CR ACCUM) }
+
+-- how many of the two were missing: each counts by itself, also where F is 0 and the second is not heard
+unfoldable pub missingOf : Words → ℕ
+missingOf w = cond (w .first .there) 0 1 + cond (w .second .there) 0 1
+
 -- what a word stands for: a sample of 16 bits, or where CMPD is 1 the value of the code in its high byte
 unfoldable pub sampleOf : ℕ → ℕ → ℤ
 sampleOf CR w = cond (flagOf CMPD CR) (valueOf (w / 256)) (signed 16 w)
-
-unfoldable pub fetched : List ℕ → ℕ → ℕ → Samples
-fetched memory CR ACCUM = record {
-  first = sampleOf CR (wordAt memory (firstAt CR ACCUM));
-  second = sampleOf CR (wordAt memory (secondAt CR ACCUM));
-}
 
 -- F: ACCUM's nine upper fractional bits
 unfoldable pub fraction : ℕ → ℕ

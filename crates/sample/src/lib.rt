@@ -1,10 +1,12 @@
-// The sample of a voice: the two words that it fetches from sample memory, what they stand for, and the value between them.
+// The sample of a voice: the two words that it fetches from sample memory, each with whether it was there; how many were missing; what a word
+// stands for, and the value between two.
 ghost use mathlib.Core.Path.{_≡_};
-ghost use Prim.Native.Nat.{_+_, _*_, _<_};
+ghost use mathlib.Core.Bool.{cond};
+ghost use Prim.Native.Nat.{_+_, _*_, _^_, _<_};
 ghost use lib.ListN.{length};
 ghost use Rattle.numbers.specs.Numbers.{Bits};
 ghost use Rattle.codes.specs.Codes.{Expands};
-ghost use Rattle.sample.specs.Sample.{wordAt, sampleOf, fetched, fraction, interpolated, BANK_WORDS as Sample·BANK_WORDS};
+ghost use Rattle.sample.specs.Sample.{wordAt, fetched, missingOf, sampleOf, fraction, interpolated, BANK_WORDS as Sample·BANK_WORDS};
 ghost use Rattle.sample.specs.Lasts.{lastOf, Lasts};
 
 // How many words a bank has, and how many the memory may have at most: four banks.
@@ -12,55 +14,68 @@ pub const BANK_WORDS: u32 = 2097152;
 
 pub const MOST_MEMORY_WORDS: usize = 4 * 2097152;
 
+// A word that was asked for, 0 where it was not there, and whether it was.
+pub struct Word {
+    pub bits: u16,
+    pub there: bool,
+}
+
 // The two words of a fetch.
-struct Words {
-    first: u16,
-    second: u16,
+pub struct Words {
+    pub first: Word,
+    pub second: Word,
 }
 
-// The two samples of a fetch.
-pub struct Samples {
-    pub first: i32,
-    pub second: i32,
-}
-
-// The value between the two samples that the voice is at, of 18 bits.
+// The value between the two samples that the voice is at, of 18 bits. The words of them that are missing are added to a number. They are
+// counted before it is asked what they stand for: then the compiler counts nothing on the way of a fetch that has both by one test.
 pub fn interpolate(
     memory: &[u16],
     lasts: &[usize; 4],
     table: &[i16; 256],
     cr: u32,
     accum: u32,
+    missing: &mut u32,
 ) -> i32
     requires { ⌜ Lasts (length (now memory)) (now lasts) ⌝ }
     requires { ⌜ Expands (now table) ⌝ }
     requires { ⌜ cr < 65536 ⌝ }
-    ensures { λ r. ⌜ (r ≡ interpolated (fraction accum) (fetched (now (memory .entry)) cr accum .first) (fetched (now (memory .entry)) cr accum .second)) × Bits 18 r ⌝ }
+    requires { ⌜ now missing + 2 < 2 ^ 32 ⌝ }
+    ensures { λ r. ⌜ (r ≡ interpolated (fraction accum) (sampleOf cr (fetched (now (memory .entry)) cr accum .first .bits)) (sampleOf cr (fetched (now (memory .entry)) cr accum .second .bits))) × Bits 18 r ⌝ }
+    ensures { λ _. ⌜ now (missing .exit) ≡ now (missing .entry) + missingOf (fetched (now (memory .entry)) cr accum) ⌝ }
 {
-    let s = fetch(memory, lasts, table, cr, accum);
-    blend(accum % 2048 / 4, s.first, s.second)
+    let w = fetch(memory, lasts, cr, accum);
+    tally(w.first.there, missing);
+    tally(w.second.there, missing);
+    let s1 = sample_of(table, cr, w.first.bits);
+    let s2 = sample_of(table, cr, w.second.bits);
+    blend(accum % 2048 / 4, s1, s2)
 }
 
-// The two samples that the voice is at.
-pub fn fetch(memory: &[u16], lasts: &[usize; 4], table: &[i16; 256], cr: u32, accum: u32) -> Samples
+// One more where a word was missing.
+fn tally(there: bool, missing: &mut u32)
+    requires { ⌜ now missing + 1 < 2 ^ 32 ⌝ }
+    ensures { λ _. ⌜ now (missing .exit) ≡ now (missing .entry) + cond there 0 1 ⌝ }
+{
+    if !there {
+        *missing += 1;
+    }
+}
+
+// The two words that the voice is at.
+pub fn fetch(memory: &[u16], lasts: &[usize; 4], cr: u32, accum: u32) -> Words
     requires { ⌜ Lasts (length (now memory)) (now lasts) ⌝ }
-    requires { ⌜ Expands (now table) ⌝ }
     requires { ⌜ cr < 65536 ⌝ }
-    ensures { λ r. ⌜ (r ≡ fetched (now (memory .entry)) cr accum) × (Bits 16 (r .first) × Bits 16 (r .second)) ⌝ }
+    ensures { λ r. ⌜ r ≡ fetched (now (memory .entry)) cr accum ⌝ }
 {
     let bank = control::bank(cr);
     let i = accum / 2048;
     let b = bank as usize;
-    let w = words_at(
+    words_at(
         memory,
         lasts[b],
         place(bank, i),
         place(bank, (i + 1) % BANK_WORDS),
-    );
-    Samples {
-        first: sample(table, cr, w.first),
-        second: sample(table, cr, w.second),
-    }
+    )
 }
 
 // The word of the memory that is word i of a bank.
@@ -75,29 +90,45 @@ fn place(bank: u32, i: u32) -> usize
 // The words at two places. Below the bank's last word the second is the next, and both are lent: one test for all three.
 fn words_at(memory: &[u16], last: usize, at: usize, next: usize) -> Words
     requires { ⌜ (at < last → (next ≡ at + 1) × (next < length (now memory))) ⌝ }
-    ensures { λ r. ⌜ (r .first ≡ wordAt (now (memory .entry)) at) × (r .second ≡ wordAt (now (memory .entry)) next) ⌝ }
+    ensures { λ r. ⌜ r ≡ record { first = wordAt (now (memory .entry)) at; second = wordAt (now (memory .entry)) next } ⌝ }
 {
     if at < last {
         return Words {
-            first: memory[at],
-            second: memory[at + 1],
+            first: Word {
+                bits: memory[at],
+                there: true,
+            },
+            second: Word {
+                bits: memory[at + 1],
+                there: true,
+            },
         };
     }
     Words {
-        first: word(memory, at),
-        second: word(memory, next),
+        first: word_at(memory, at),
+        second: word_at(memory, next),
     }
 }
 
-// A word of the memory, 0 beyond it.
-fn word(memory: &[u16], at: usize) -> u16
+// A word of the memory; beyond it 0, which is not there.
+fn word_at(memory: &[u16], at: usize) -> Word
     ensures { λ r. ⌜ r ≡ wordAt (now (memory .entry)) at ⌝ }
 {
-    if at < memory.len() { memory[at] } else { 0 }
+    if at < memory.len() {
+        Word {
+            bits: memory[at],
+            there: true,
+        }
+    } else {
+        Word {
+            bits: 0,
+            there: false,
+        }
+    }
 }
 
 // What a word stands for.
-fn sample(table: &[i16; 256], cr: u32, w: u16) -> i32
+fn sample_of(table: &[i16; 256], cr: u32, w: u16) -> i32
     requires { ⌜ Expands (now table) ⌝ }
     ensures { λ r. ⌜ (r ≡ sampleOf cr w) × Bits 16 r ⌝ }
 {

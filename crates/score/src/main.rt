@@ -4,8 +4,8 @@
 //
 // kind 0: reset. 1: write the byte at the address that the number gives. 2: read there. 3: set the pot result to the number. 4: run a frame.
 //
-// Each command gives one line: the answer's number, for a read also the byte, for a frame also the twelve values. A command of any other
-// kind gives the line "no call". A last command that is cut short is left out, and so is all that stands after 65,536 bytes; a score whose
+// Each command gives one line: the answer's number, for a read also the byte, for a frame also how many words were missing and the twelve
+// values. A command of any other kind gives the line "no call". A last command that is cut short is left out, and so is all that stands after 65,536 bytes; a score whose
 // sample memory is cut short gives no line.
 ghost use mathlib.Core.Path.{_≡_};
 ghost use Prim.Native.Nat.{_+_, _*_, _≤_};
@@ -70,11 +70,20 @@ fn say(ask: Ask, reply: Reply, out: &[i32]) {
     let answer = reply.answer;
     io::print_decimal(STDOUT_FILENO, answer::number(answer) as u64);
     match ask {
-        Ask::Read(_) => say_value(reply.byte as i32),
-        Ask::Frame => say_values(out),
+        Ask::Read(_) => say_number(reply.given),
+        Ask::Frame => {
+            say_number(reply.given);
+            say_values(out);
+        }
         _ => {}
     }
     io::write_all(STDOUT_FILENO, b"\n");
+}
+
+// A space, and a number after it: what a call gives beside its answer, or a value of the output.
+fn say_number(n: u32) {
+    io::write_all(STDOUT_FILENO, b" ");
+    io::print_decimal(STDOUT_FILENO, n as u64);
 }
 
 fn say_values(out: &[i32]) {
@@ -83,7 +92,6 @@ fn say_values(out: &[i32]) {
     }
 }
 
-// A space, and the number after it.
 fn say_value(z: i32) {
     io::write_all(STDOUT_FILENO, b" ");
     if z < 0 {

@@ -1,10 +1,11 @@
 -- The interrupt flag and a turn.
--- In order: two voices that hold the same registers, interrupt flags excepted (`besideCR`, `ButFlag`); what the turn reads of them; a turn does
+-- In order: two voices that hold the same registers, interrupt flags excepted (`besideCR`, `ButFlag`); what the turn reads of them, by which they
+-- miss as many words (`same-missed`); a turn does
 -- not heed the flag (`SameTurn`, `same-turn`: they add the same, and are such voices after it); the flag after a turn
 -- (`turn-flag`: as it was, or on where the turn raises it). The flag after the address step alone is `address/proofs/LoopEvent`; what the frame
 -- does with it is `frame/proofs/Leaves`. Assumes nothing.
 use mathlib.Core.Path.{_≡_, refl, sym, ap, _∙_}
-use mathlib.Core.Bool.{_||_, or-false}
+use mathlib.Core.Bool.{cond, _||_, or-false}
 use mathlib.Core.List.{List}
 use Prim.Native.Nat.{ℕ}
 use native.Mathlib.Omega.{arith}
@@ -12,9 +13,8 @@ use lib.IntN.{ℤ, pos}
 use Rattle.numbers.proofs.Tests.{split, alongside}
 use Rattle.control.specs.Control.{flagOf, runs, LP3, LP4, CMPD, IRQ}
 use Rattle.control.proofs.Agree.{AgreeBut, flag-agrees, bank-agrees, runs-agrees}
-use Rattle.sample.specs.Sample.{fetched, fraction, interpolated}
-use Rattle.sample.specs.declared.Samples.{Samples}
-use Rattle.sample.proofs.Laws.{fetched-bank}
+use Rattle.sample.specs.Sample.{fetched, sampleOf, fraction, interpolated, missingOf}
+use Rattle.sample.proofs.Laws.{sample-coded, fetched-bank}
 use Rattle.filter.specs.Filter.{filtered}
 use Rattle.filter.proofs.Laws.{filtered-passes}
 use Rattle.volume.specs.Volume.{panned}
@@ -23,6 +23,7 @@ use Rattle.address.proofs.Agree.{SamePlace, stepped-agrees}
 use Rattle.address.proofs.LoopEvent.{stepped-flag}
 use Rattle.voice.specs.Voice.{Voice, Turn}
 use Rattle.voice.specs.Turn.{lastOutputs, rampedLevels, withOutputs, moved, sampled, stoppedTurn, runningTurn, turnOf}
+use Rattle.voice.specs.Missed.{missedBy}
 use Rattle.voice.specs.Raises.{raises}
 use Rattle.voice.proofs.Laws.{turn-runs, turn-stands}
 
@@ -74,12 +75,22 @@ module _ (v w : Voice) (h : ButFlag v w) where
       (flag-agrees IRQ (v .cr) (w .cr) (h .cr) LP3 (λ e. omega arith)) (flag-agrees IRQ (v .cr) (w .cr) (h .cr) LP4 (λ e. omega arith))
       ∙ ap (λ (z : Voice). filtered (w .cr) (z .k1) (z .k2) x (lastOutputs z)) (h .others)
 
+  same-fetch : (memory : List ℕ) → fetched memory (v .cr) (v .accum) ≡ fetched memory (w .cr) (w .accum)
+  unfolding besideCR
+  same-fetch memory =
+      fetched-bank memory (v .cr) (w .cr) (v .accum) (bank-agrees (v .cr) (w .cr) (h .cr))
+      ∙ ap (λ (z : Voice). fetched memory (w .cr) (z .accum)) (h .others)
+
   same-sample : (memory : List ℕ) → sampled memory v ≡ sampled memory w
   unfolding besideCR sampled
   same-sample memory =
-      ap (λ (s : Samples). interpolated (fraction (v .accum)) (s .first) (s .second))
-      (fetched-bank memory (v .cr) (w .cr) (v .accum) (flag-agrees IRQ (v .cr) (w .cr) (h .cr) CMPD (λ e. omega arith)) (bank-agrees (v .cr) (w .cr) (h .cr)))
-      ∙ ap (λ (z : Voice). let s = fetched memory (w .cr) (z .accum) in interpolated (fraction (z .accum)) (s .first) (s .second)) (h .others)
+      let f = same-fetch memory in
+      let stands : (b : ℕ) → sampleOf (v .cr) b ≡ sampleOf (w .cr) b = λ b. sample-coded (v .cr) (w .cr) b (flag-agrees IRQ (v .cr) (w .cr) (h .cr) CMPD (λ e. omega arith)) in
+      λ i. interpolated (fraction (h .others i .accum)) (stands (f i .first .bits) i) (stands (f i .second .bits) i)
+
+  pub same-missed : (memory : List ℕ) → missedBy memory v ≡ missedBy memory w
+  unfolding missedBy
+  same-missed memory = λ i. cond (runs-agrees (v .cr) (w .cr) (h .cr) i) (missingOf (same-fetch memory i)) 0
 
   same-levels : (slow : ℕ) → rampedLevels slow v ≡ rampedLevels slow w
   unfolding besideCR rampedLevels

@@ -10,7 +10,7 @@ use lib.Dec.{eqb}
 use lib.IntN.{ℤ, pos}
 use Rattle.numbers.specs.Numbers.{signed, word}
 use Rattle.control.specs.Control.{runs}
-use Rattle.sample.specs.Sample.{fetched, fraction, interpolated}
+use Rattle.sample.specs.Sample.{fetched, sampleOf, fraction, interpolated}
 use Rattle.filter.specs.Filter.{filtered}
 use Rattle.filter.specs.declared.Poles.{Poles}
 use Rattle.volume.specs.Volume.{panned}
@@ -101,7 +101,9 @@ stoppedTurn v = record { voice = withOutputs v (passing (pos 0) v); left = pos 0
 
 -- the value that a running voice's poles take in
 unfoldable pub sampled : List ℕ → Voice → ℤ
-sampled memory v = let s = fetched memory (v .cr) (v .accum) in interpolated (fraction (v .accum)) (s .first) (s .second)
+sampled memory v =
+    let w = fetched memory (v .cr) (v .accum) in
+    interpolated (fraction (v .accum)) (sampleOf (v .cr) (w .first .bits)) (sampleOf (v .cr) (w .second .bits))
 
 -- A running voice: sample, filters, volume, address and ramps.
 unfoldable pub runningTurn : List ℕ → ℕ → Voice → Turn

@@ -3,7 +3,7 @@
 // The words are read and stored where they stand: no copy of the voice is made.
 ghost use mathlib.Core.Path.{_≡_};
 ghost use mathlib.Core.Bool.{cond};
-ghost use Prim.Native.Nat.{_<_};
+ghost use Prim.Native.Nat.{_+_, _^_, _<_};
 ghost use lib.IntN.{pos};
 ghost use lib.ListN.{length, getD};
 ghost use Rattle.numbers.specs.Numbers.{Bits};
@@ -14,6 +14,7 @@ ghost use Rattle.sample.specs.Lasts.{Lasts};
 ghost use Rattle.machine.specs.Words.{VOICE_WORDS, CR, FC, ACCUM};
 ghost use Rattle.voice.specs.Voice.{voiceOf};
 ghost use Rattle.voice.specs.Turn.{sampled, lastOutputs, levelsOf};
+ghost use Rattle.voice.specs.Missed.{missedBy};
 ghost use Rattle.voice.specs.Ranges.{Ranges, Leveled};
 ghost use Rattle.voice.specs.Takes.{afterStep, afterRamps, Passes, TakesTurn};
 use filter::Poles;
@@ -25,22 +26,26 @@ pub struct Addend {
     pub right: i32,
 }
 
-// A turn of the voice whose words are w, at the slow-ramp counter slow, over the lent sample memory and the table of codes.
+// A turn of the voice whose words are w, at the slow-ramp counter slow, over the lent sample memory and the table of codes. The words of sample
+// memory that it misses are added to a number.
 pub fn turn(
     w: &mut [u32],
     slow: u32,
     memory: &[u16],
     lasts: &[usize; 4],
     table: &[i16; 256],
+    missing: &mut u32,
 ) -> Addend
     requires { ⌜ length (now w) ≡ VOICE_WORDS ⌝ }
     requires { ⌜ Ranges (voiceOf (now w)) ⌝ }
     requires { ⌜ Lasts (length (now memory)) (now lasts) ⌝ }
     requires { ⌜ Expands (now table) ⌝ }
+    requires { ⌜ now missing + 2 < 2 ^ 32 ⌝ }
     ensures { λ r. ⌜ TakesTurn (now (memory .entry)) slow (now (w .entry)) (now (w .exit)) r ⌝ }
+    ensures { λ _. ⌜ now (missing .exit) ≡ now (missing .entry) + missedBy (now (memory .entry)) (voiceOf (now (w .entry))) ⌝ }
 {
     let cr = w[machine::CR];
-    let x = input(w, cr, memory, lasts, table);
+    let x = input(w, cr, memory, lasts, table, missing);
     let o4 = pass(w, cr, x);
     if control::running(cr) {
         let left = volume::pan(w[machine::LVOL], o4);
@@ -61,18 +66,27 @@ pub fn turn(
     }
 }
 
-// What goes into the filters: the sample that the voice is at, or 0 where it is stopped.
-fn input(w: &[u32], cr: u32, memory: &[u16], lasts: &[usize; 4], table: &[i16; 256]) -> i32
+// What goes into the filters: the sample that the voice is at, or 0 where it is stopped; such a voice asks for no word, and misses none.
+fn input(
+    w: &[u32],
+    cr: u32,
+    memory: &[u16],
+    lasts: &[usize; 4],
+    table: &[i16; 256],
+    missing: &mut u32,
+) -> i32
     requires { ⌜ length (now w) ≡ VOICE_WORDS ⌝ }
     requires { ⌜ (cr ≡ getD (now w) CR 0) × (cr < 65536) ⌝ }
     requires { ⌜ Lasts (length (now memory)) (now lasts) ⌝ }
     requires { ⌜ Expands (now table) ⌝ }
+    requires { ⌜ now missing + 2 < 2 ^ 32 ⌝ }
     ensures { λ r. ⌜ (r ≡ cond (runs cr) (sampled (now (memory .entry)) (voiceOf (now (w .entry)))) (pos 0)) × Bits 18 r ⌝ }
+    ensures { λ _. ⌜ now (missing .exit) ≡ now (missing .entry) + missedBy (now (memory .entry)) (voiceOf (now (w .entry))) ⌝ }
 {
     if !control::running(cr) {
         return 0;
     }
-    sample::interpolate(memory, lasts, table, cr, w[machine::ACCUM])
+    sample::interpolate(memory, lasts, table, cr, w[machine::ACCUM], missing)
 }
 
 // The sample x passes the filters; the new output of pole 4. The old outputs move back first, so that no copy of them is kept.

@@ -22,7 +22,7 @@ returns-2 : tie.Need-returns-2
 returns-2 c = of-ask (c .before .before .before .before .before .ask .given .1) (writes _ _ _ _ _ (c .before .before .write .ensures))
 
 returns-3 : tie.Need-returns-3
-returns-3 c = of-ask (c .before .before .before .before .before .ask2 .given .1) (reads _ _ _ _ (c .before .before .read .ensures))
+returns-3 c = of-ask (c .before .before .before .before .before .before .ask2 .given .1) (reads _ _ _ _ (c .before .before .before .read .ensures))
 
 returns-4 : tie.Need-returns-4
 returns-4 c = of-ask (c .before .before .before .before .before .ask3 .given .1) (sets-pot _ _ _ _ (c .before .before .set-pot .ensures))
@@ -40,6 +40,7 @@ perform-spec =
     (λ c κs. search needs)
     (λ c. search needs)
     (λ c κs. search needs)
+    (λ c. search needs)
     (λ c. search needs)
     (λ c κs. search needs)
     (λ c. search needs)

@@ -27,7 +27,7 @@ close-requires : tie.Need-close-requires
 close-requires c κs =
     let t = c .before .before .before .before .before .before in
     let p = c .before .before .before .before .play .ensures in
-    let s = subst Sound (sym p) (sound-played _ (lent t .machine)) in
+    let s = subst Sound (sym (p .0)) (sound-played _ (lent t .machine)) in
     (s .size, (sum-small _ s, lent t .values))
 
 returns-2 : tie.Need-returns-2
@@ -35,7 +35,7 @@ returns-2 c =
     let t = c .before .before .before .before .before .before .before .before .before .before in
     let p = c .before .before .before .before .before .before .before .before .play .ensures in
     let e = c .before .before .before .close .ensures in
-    frames-done _ _ _ _ _ (fine t) (e .0 ∙ ap closed p) (e .1 ∙ ap heard p)
+    frames-done _ _ _ _ _ _ (fine t) (p .1) (e .0 ∙ ap closed (p .0)) (e .1 ∙ ap heard (p .0))
 
 pub frame-spec : {M : Type 1} → statement M
 frame-spec =

@@ -1,5 +1,5 @@
 -- `frame::play` meets its contract. The loop's invariant, `Playing`: the record is what the turns so far make of the first, and so is
--- valid; what all turns share is as it was made. Assumes nothing.
+-- valid; the number is what they missed; what all turns share is as it was made. Assumes nothing.
 use mathlib.Core.Path.{_≡_, refl, sym, ap, subst, _∙_}
 use mathlib.Core.Bool.{true}
 use mathlib.Core.List.{List}
@@ -13,14 +13,19 @@ use lib.ListN.{length, getD}
 use Rattle.codes.specs.Codes.{Expands}
 use Rattle.sample.specs.Lasts.{Lasts}
 use Rattle.machine.specs.Words.{valid, ACTV, SLOW}
+use Rattle.machine.specs.Voices.{voiceAt}
 use Rattle.machine.proofs.Valid.{Sound, sound, is-valid}
+use Rattle.voice.specs.Voice.{voiceOf}
+use Rattle.voice.specs.Missed.{missedBy}
+use Rattle.frame.specs.Sum.{sum}
 use Rattle.frame.specs.Frame.{turnAt, turns, played}
 use Rattle.frame.proofs.Keeps.{active-le, sound-turns}
 use Rattle.frame.proofs.Leaves.{slow-stays, turned}
+use Rattle.frame.proofs.Missing.{missedInTurns, missed-in-turns, missed-in-turns-most}
 use Rattle.frame.proofs.play.Statement.{statement}
 use Rattle.frame.proofs.play.Tie as tie
 
-record Playing (first memory lasts : List ℕ) (table : List ℤ) (slow n : ℕ) (m : List ℕ) (v : ℕ) : Type 0 where
+record Playing (first memory lasts : List ℕ) (table : List ℤ) (slow n : ℕ) (m : List ℕ) (missing v : ℕ) : Type 0 where
   whole : Sound first
   near : Lasts (length memory) lasts
   codes : Expands table
@@ -29,15 +34,16 @@ record Playing (first memory lasts : List ℕ) (table : List ℤ) (slow n : ℕ)
   most : n ≤ 32
   passed : v ≤ n
   so-far : m ≡ turns memory v first
+  missed : missing ≡ missedInTurns memory v first
 
 abbrev Inv-loop : tie.InvT-loop
-Inv-loop m₀ memory lasts table slow actv n v₀ m v = Playing m₀ memory lasts table slow n m v
+Inv-loop m₀ memory lasts table slow actv n missing₀ v₀ m missing v = Playing m₀ memory lasts table slow n m missing v
 
 abbrev μ-loop : tie.MeasureT-loop
-μ-loop m₀ memory lasts table slow actv n v₀ m v = n - v
+μ-loop m₀ memory lasts table slow actv n missing₀ v₀ m missing v = n - v
 
 loop-holds : tie.Need-loop-holds Inv-loop μ-loop
-unfolding turns
+unfolding turns missedInTurns sum
 loop-holds c =
     let s = c .before .before .before .before .before .before .before in
     let r = sound (s .args .m .now) (s .pre) in
@@ -50,12 +56,13 @@ loop-holds c =
       most = omega (arith, c .count .ensures, active-le (s .args .m .now) r);
       passed = omega arith;
       so-far = refl;
+      missed = refl;
     }
 
 turn-requires : tie.Need-turn-requires Inv-loop μ-loop
 turn-requires c κs =
-    let l = c .before .before .before .before .loop in
-    let memory = now (c .before .before .before .before .before .before .before .before .before .before .before .before .args .memory) in
+    let l = c .before .before .before .before .before .loop in
+    let memory = now (c .before .before .before .before .before .before .before .before .before .before .before .before .before .args .memory) in
     let h = l .inv in
     let few : l .v ≤ 32 = omega arith in (
       subst (λ (x : List ℕ). valid x ≡ true) (sym (h .so-far)) (is-valid _ (sound-turns memory (l .v) (h .whole) few)),
@@ -63,17 +70,18 @@ turn-requires c κs =
         omega arith,
         (
           h .counter ∙ sym (ap (λ (x : List ℕ). getD x SLOW 0) (h .so-far) ∙ slow-stays (turned memory (l .v) few (h .whole))),
-          (h .near, h .codes),
+          (h .near, (h .codes, omega (arith, h .missed, missed-in-turns-most memory (l .v) (c .before .before .before .before .before .before .before .before .before .before .before .before .before .args .m .now)))),
         ),
       ),
     )
 
 loop-again : tie.Need-loop-again Inv-loop μ-loop
-unfolding turns
+unfolding turns missedInTurns sum
 loop-again c =
-    let l = c .before .before .before .before .before .before .before .loop in
-    let memory = now (c .before .before .before .before .before .before .before .before .before .before .before .before .before .before .before .args .memory) in
+    let l = c .before .before .before .before .before .before .before .before .loop in
+    let memory = now (c .before .before .before .before .before .before .before .before .before .before .before .before .before .before .before .before .args .memory) in
     let h = l .inv in
+    let t = c .before .before .turn in
     record {
       whole = h .whole;
       near = h .near;
@@ -82,7 +90,8 @@ loop-again c =
       active = h .active;
       most = h .most;
       passed = omega arith;
-      so-far = rw add-one (c .before .before .turn .ensures ∙ ap (turnAt memory (l .v)) (h .so-far));
+      so-far = rw add-one (t .ensures .0 ∙ ap (turnAt memory (l .v)) (h .so-far));
+      missed = rw add-one (t .ensures .1 ∙ (λ i. h .missed i + missedBy memory (voiceOf (voiceAt (h .so-far i) (l .v)))));
     }
 
 -- the record after the turns so far has as many words as the first
@@ -99,8 +108,10 @@ returns c =
     let l = c .before .loop in
     let h = l .inv in
     let s = c .before .before .before .before .before .before .before .before .before in
-    let e : l .v ≡ getD (s .args .m .now) ACTV 0 + 1 = omega (arith, h .active, h .passed, c .loop-test .left) in
-    h .so-far ∙ ap (λ (k : ℕ). turns (now (s .args .memory)) k (s .args .m .now)) e
+    let memory = now (s .args .memory) in
+    let m = s .args .m .now in
+    let e : l .v ≡ getD m ACTV 0 + 1 = omega (arith, h .active, h .passed, c .loop-test .left) in
+    (h .so-far ∙ ap (λ (k : ℕ). turns memory k m) e, h .missed ∙ ap (λ (k : ℕ). missedInTurns memory k m) e ∙ missed-in-turns memory (h .whole))
 
 pub play-spec : {M : Type 1} → statement M
 play-spec =

@@ -1,6 +1,6 @@
--- `frame::turn` meets its contract: the voice's part of a valid record takes its turn, and what it adds is added and its flag signalled.
--- Assumes nothing.
-use mathlib.Core.Path.{_≡_, subst, _∙_}
+-- `frame::turn` meets its contract: the voice's part of a valid record takes its turn, which counts what it misses; what it adds is added, and
+-- its flag signalled. Assumes nothing.
+use mathlib.Core.Path.{_≡_, ap, subst, _∙_}
 use mathlib.Core.List.{List}
 use Prim.Native.Nat.{ℕ, _+_, _-_, _*_, _≤_}
 use native.Mathlib.Omega.{arith}
@@ -15,6 +15,8 @@ use Rattle.machine.specs.Voices.{voiceAt}
 use Rattle.machine.proofs.Parts.{voice-length}
 use Rattle.machine.proofs.Valid.{Sound, sound, sound-voice}
 use Rattle.voice.specs.declared.Addend.{Addend}
+use Rattle.voice.specs.Voice.{voiceOf}
+use Rattle.voice.specs.Missed.{missedBy}
 use Rattle.voice.specs.Takes.{TakesTurn}
 use Rattle.frame.proofs.Keeps.{ranges-of, sum-small}
 use Rattle.frame.proofs.Taken.{back-sound, turn-taken}
@@ -31,11 +33,11 @@ twenty v = omega arith
 turn-requires : tie.Need-turn-requires
 unfolding voiceAt
 turn-requires c κs =
-    let s = c .before .before .before in
+    let s = c .before .before .before .before in
     let v = s .args .v in
     let m = s .args .m .now in
     let fits : 20 * v + 20 ≤ length m = omega (arith, whole s .size, s .pre .1 .0) in
-    rw (twenty v) (voice-length m v fits, (ranges-of (voiceAt m v) (λ j k. sound-voice m (whole s) v j (s .pre .1 .0) k), (s .pre .1 .1 .1 .0, s .pre .1 .1 .1 .1)))
+    rw (twenty v) (voice-length m v fits, (ranges-of (voiceAt m v) (λ j k. sound-voice m (whole s) v j (s .pre .1 .0) k), s .pre .1 .1 .1))
 
 -- the record with the voice's part put back
 module _ (s : tie.Start) (after : List ℕ) (a : Addend)
@@ -52,23 +54,29 @@ module _ (s : tie.Start) (after : List ℕ) (a : Addend)
 add-requires : tie.Need-add-requires
 add-requires c κs =
     let t = c .before .before .before .before .before .turn in
-    let r = put-back (c .before .before .before .before .before .before .before .before .before) (t .last .0) (t .result) (t .ensures) in
-    (r .size, (sum-small _ r, (within tt (ranged w32 tt (t .ensures .small-left)), within tt (ranged w32 tt (t .ensures .small-right)))))
+    let p = t .ensures .0 in
+    let r = put-back (c .before .before .before .before .before .before .before .before .before .before) (t .last .0) (t .result) p in
+    (r .size, (sum-small _ r, (within tt (ranged w32 tt (p .small-left)), within tt (ranged w32 tt (p .small-right)))))
 
 -- and with what the turn adds, which is as long
 added-size : (c : tie.After-add) → length (c .add .last .0) ≡ RECORD_WORDS
-added-size c = let t = c .before .before .before .before .before .before .turn in c .add .kept .0 ∙ put-back (c .before .before .before .before .before .before .before .before .before .before) (t .last .0) (t .result) (t .ensures) .size
+added-size c = let t = c .before .before .before .before .before .before .turn in c .add .kept .0 ∙ put-back (c .before .before .before .before .before .before .before .before .before .before .before) (t .last .0) (t .result) (t .ensures .0) .size
 
 returns : tie.Need-returns
+unfolding voiceAt
 returns c =
     let a = c .before .before .before .before .before .before .before .add in
     let t = c .before .before .before .before .before .before .before .before .before .before .before .before .before .turn in
-    let s = c .before .before .before .before .before .before .before .before .before .before .before .before .before .before .before .before .before in
+    let s = c .before .before .before .before .before .before .before .before .before .before .before .before .before .before .before .before .before .before in
     let v = s .args .v in
-    c .before .before .signal .ensures
-    ∙ rw (a .ensures, ranged w32 tt (t .ensures .small-left) .is, ranged w32 tt (t .ensures .small-right) .is)
-    (turn-taken (now (s .args .memory)) (s .args .m .now) v (part s (t .last .0) (t .result) (t .ensures)) (t .last .0) (t .result) (twenty v)
-    (taken s (t .last .0) (t .result) (t .ensures)) (whole s) (s .pre .1 .0))
+    let m = s .args .m .now in
+    let memory = now (s .args .memory) in
+    let p = t .ensures .0 in (
+      c .before .before .signal .ensures
+          ∙ rw (a .ensures, ranged w32 tt (p .small-left) .is, ranged w32 tt (p .small-right) .is)
+          (turn-taken memory m v (part s (t .last .0) (t .result) p) (t .last .0) (t .result) (twenty v) (taken s (t .last .0) (t .result) p) (whole s) (s .pre .1 .0)),
+      t .ensures .1 ∙ ap (λ (n : ℕ). now (s .args .missing) + missedBy memory (voiceOf (take n (drop (20 * v) m)))) (twenty v),
+    )
 
 pub turn-spec : {M : Type 1} → statement M
 turn-spec =
@@ -84,7 +92,7 @@ turn-spec =
     add-requires
     (λ c. search needs)
     (λ c. search needs)
-    (λ c. omega (arith, added-size (c .before .before .before), c .before .before .before .before .before .before .before .before .before .before .before .before .before .pre .1 .0))
-    (λ c κs. (added-size (c .before .before .before .before), c .before .before .before .before .before .before .before .before .before .before .before .before .before .before .pre .1 .0))
+    (λ c. omega (arith, added-size (c .before .before .before), c .before .before .before .before .before .before .before .before .before .before .before .before .before .before .pre .1 .0))
+    (λ c κs. (added-size (c .before .before .before .before), c .before .before .before .before .before .before .before .before .before .before .before .before .before .before .before .pre .1 .0))
     (λ c. search needs)
     returns)

@@ -1,9 +1,10 @@
 -- `sample::words_at` meets its contract: below the last word both words are lent, and the second is the next. Assumes nothing.
-use mathlib.Core.Path.{_≡_, refl, sym, ap}
+use mathlib.Core.Path.{_≡_}
 use Prim.Native.Nat.{ℕ, _+_, _<_}
 use native.Mathlib.Omega.{arith}
 use borrow.Author.Needs.{needs}
-use lib.ListN.{length, getD}
+use lib.ListN.{length}
+use Rattle.sample.proofs.Laws.{word-there, same-words}
 use Rattle.sample.proofs.words_at.Statement.{statement}
 use Rattle.sample.proofs.words_at.Tie as tie
 
@@ -13,7 +14,8 @@ near c = c .before .before .pre (c .if1 .taken)
 returns : tie.Need-returns
 returns c =
     let s = c .before .before .before .before in
-    (refl, ap (λ (i : ℕ). getD (s .args .memory .now) i 0) (sym (near (c .before .before) .0)))
+    let n = near (c .before .before) in
+    same-words (word-there (s .args .memory .now) (s .args .at) (omega (arith, n))) (rw (n .0) (word-there (s .args .memory .now) (s .args .at + 1) (omega (arith, n))))
 
 pub words-at-spec : {M : Type 1} → statement M
 words-at-spec =
@@ -27,4 +29,4 @@ words-at-spec =
     returns
     (λ c κs. search needs)
     (λ c κs. search needs)
-    (λ c. search needs))
+    (λ c. same-words (c .before .word-at .ensures) (c .word-at2 .ensures)))

@@ -23,15 +23,18 @@ use Rattle.voice.proofs.Words.{filters-length, step-length, filters-con
 use Rattle.voice.proofs.turn.Statement.{statement}
 use Rattle.voice.proofs.turn.Tie as tie
 
+input-requires : tie.Need-input-requires
+input-requires c κs = let s = c .before .before .before .before .before in (s .pre .0, ((refl, s .pre .1 .0 .cr), s .pre .1 .1))
+
 pass-requires : tie.Need-pass-requires
 pass-requires c κs =
-    let s = c .before .before .before .before .before .before in
-    (s .pre .0, (s .pre .1 .0, (refl, bits-back w32 (c .before .input .ok) (c .before .input .ensures .1))))
+    let s = c .before .before .before .before .before .before .before in
+    (s .pre .0, (s .pre .1 .0, (refl, bits-back w32 (c .before .input .ok) (c .before .input .ensures .0 .1))))
 
 -- the levels after the filters are those of the voice
 module _ (c : tie.After-pass) where
   abbrev start : tie.Start
-  start = c .before .before .before .before .before .before .before
+  start = c .before .before .before .before .before .before .before .before
 
   levels-kept : levelsOf (voiceOf (c .pass .last .0)) ≡ levelsOf (voiceOf (start .args .w .now))
   levels-kept = ap (λ (l : List ℕ). levelsOf (voiceOf l)) (c .pass .ensures .words) ∙ filters-levels (start .args .w .now) _
@@ -56,16 +59,16 @@ ramps-requires c κs =
 -- a running voice
 module _ (c : tie.Then1) where
   abbrev memory : List ℕ
-  memory = now (c .before .before .before .before .before .before .before .before .before .before .before .args .memory)
+  memory = now (c .before .before .before .before .before .before .before .before .before .before .before .before .args .memory)
 
   abbrev words : List ℕ
-  words = c .before .before .before .before .before .before .before .before .before .before .before .args .w .now
+  words = c .before .before .before .before .before .before .before .before .before .before .before .before .args .w .now
 
   runs-now : runs (getD words 0 0) ≡ true
   runs-now = sym (c .before .running .ensures) ∙ c .if1 .taken
 
   sample-in : toZ w32 (ofZ w32 (c .before .before .before .before .before .before .input .result)) ≡ sampled memory (voiceOf words)
-  sample-in = let i = c .before .before .before .before .before .before .input in back w32 (i .ok) ∙ i .ensures .0 ∙ rw runs-now
+  sample-in = let i = c .before .before .before .before .before .before .input in back w32 (i .ok) ∙ i .ensures .0 .0 ∙ rw runs-now
 
   output : toZ w32 (ofZ w32 (c .before .before .before .before .pass .result)) ≡ passing (sampled memory (voiceOf words)) (voiceOf words) .o4
   output = let p = c .before .before .before .before .pass in back w32 (p .ok) ∙ p .ensures .output ∙ ap (λ (x : ℤ). passing x (voiceOf words) .o4) sample-in
@@ -84,18 +87,20 @@ returns c =
     let pan = c .before .before .before .before .before .before .before .before .before .before .before .pan in
     let pan2 = c .before .before .before .before .before .before .before .before .before .pan2 in
     let left = handed w32 (Within 1048576) (pan .ok) (pan .ensures) ((λ i. panned (levels-kept p i .lvol) (output r i)) ∙ ap (λ (u : Turn). u .left) (sym t)) in
-    let right = handed w32 (Within 1048576) (pan2 .ok) (pan2 .ensures) ((λ i. panned (levels-kept p i .rvol) (output r i)) ∙ ap (λ (u : Turn). u .right) (sym t)) in
-    record {
-      words =
-          c .before .before .before .ramps .ensures
-          ∙ ap (afterRamps slow) (c .before .before .before .before .before .before .before .step .ensures ∙ ap afterStep (p .pass .ensures .words ∙ ap (λ (x : ℤ). afterFilters x w) (sample-in r)))
-          ∙ parts-run w m slow ∙ ap (λ (u : Turn). wordsOf (u .voice)) (sym t);
-      channel = c .channel .ensures .0 ∙ rw (runs-now r);
-      left = left .0;
-      right = right .0;
-      small-left = left .1;
-      small-right = right .1;
-    }
+    let right = handed w32 (Within 1048576) (pan2 .ok) (pan2 .ensures) ((λ i. panned (levels-kept p i .rvol) (output r i)) ∙ ap (λ (u : Turn). u .right) (sym t)) in (
+      record {
+        words =
+            c .before .before .before .ramps .ensures
+            ∙ ap (afterRamps slow) (c .before .before .before .before .before .before .before .step .ensures ∙ ap afterStep (p .pass .ensures .words ∙ ap (λ (x : ℤ). afterFilters x w) (sample-in r)))
+            ∙ parts-run w m slow ∙ ap (λ (u : Turn). wordsOf (u .voice)) (sym t);
+        channel = c .channel .ensures .0 ∙ rw (runs-now r);
+        left = left .0;
+        right = right .0;
+        small-left = left .1;
+        small-right = right .1;
+      },
+      p .before .before .input .ensures .1,
+    )
 
 returns-2 : tie.Need-returns-2
 unfolding stoppedTurn
@@ -108,22 +113,24 @@ returns-2 c =
     let stands : runs (getD w 0 0) ≡ false = sym (c .before .running .ensures) ∙ c .if1 .left in
     let t = turn-stands m (s .args .slow) v stands in
     let i = c .before .before .before .before .before .before .input in
-    let x : toZ w32 (ofZ w32 (i .result)) ≡ pos 0 = back w32 (i .ok) ∙ i .ensures .0 ∙ rw stands in
-    record {
-      words = p .pass .ensures .words ∙ ap (λ (z : ℤ). afterFilters z w) x ∙ parts-stand w ∙ ap (λ (u : Turn). wordsOf (u .voice)) (sym t);
-      channel = rw stands;
-      left = ap (λ (u : Turn). u .left) (sym t);
-      right = ap (λ (u : Turn). u .right) (sym t);
-      small-left = record { within = lit≤ tt };
-      small-right = record { within = lit≤ tt };
-    }
+    let x : toZ w32 (ofZ w32 (i .result)) ≡ pos 0 = back w32 (i .ok) ∙ i .ensures .0 .0 ∙ rw stands in (
+      record {
+        words = p .pass .ensures .words ∙ ap (λ (z : ℤ). afterFilters z w) x ∙ parts-stand w ∙ ap (λ (u : Turn). wordsOf (u .voice)) (sym t);
+        channel = rw stands;
+        left = ap (λ (u : Turn). u .left) (sym t);
+        right = ap (λ (u : Turn). u .right) (sym t);
+        small-left = record { within = lit≤ tt };
+        small-right = record { within = lit≤ tt };
+      },
+      i .ensures .1,
+    )
 
 pub turn-spec : {M : Type 1} → statement M
 turn-spec =
     tie.close
     (tie.spec
     (λ c. search needs)
-    (λ c κs. search needs)
+    input-requires
     pass-requires
     (λ c κs. search needs)
     (λ c. search needs)

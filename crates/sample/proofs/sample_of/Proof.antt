@@ -1,4 +1,4 @@
--- `sample::sample` meets its contract, by the bit that says how a word is read. Assumes nothing.
+-- `sample::sample_of` meets its contract, by the bit that says how a word is read. Assumes nothing.
 use mathlib.Core.Path.{_≡_, sym, subst, _∙_}
 use Prim.Native.Nat.{ℕ, _/_, _<_}
 use native.Mathlib.Omega.{arith}
@@ -14,8 +14,8 @@ use Rattle.numbers.proofs.Local.{Done, ret, back, cast}
 use Rattle.codes.specs.Codes.{valueOf}
 use Rattle.codes.proofs.Range.{value-bits}
 use Rattle.sample.proofs.Laws.{compressed-word, linear-word}
-use Rattle.sample.proofs.sample.Statement.{statement}
-use Rattle.sample.proofs.sample.Tie as tie
+use Rattle.sample.proofs.sample_of.Statement.{statement}
+use Rattle.sample.proofs.sample_of.Tie as tie
 
 -- what the table gave, as an `i32`
 value : (c : tie.After-look-up) → Done w32 32768 (valueOf (c .before .before .before .args .w / 256)) (toZ w16 (ofZ w16 (c .look-up .result)))
@@ -33,7 +33,7 @@ returns-2 c =
     let e = back w32 (c .number-of .ok) ∙ c .number-of .ensures in
     (e ∙ sym (linear-word _ _ (sym (c .before .before .flag .ensures) ∙ c .before .if1 .left)), subst (Bits 16) (sym e) (signed-bits 16 w (lit< tt) (omega arith)))
 
-pub sample-spec : {M : Type 1} → statement M
-sample-spec =
+pub sample-of-spec : {M : Type 1} → statement M
+sample-of-spec =
     tie.close
     (tie.spec (λ c κs. search needs) (λ c. search needs) (λ c κs. search needs) (λ c. value c .asks) (λ c κs. search needs) returns returns-2)
