@@ -18,7 +18,7 @@
 
 static const struct engine *engine;
 static _Alignas(16) uint32_t record[OTTO_RECORD_WORDS]; /* in every build */
-static uint16_t memory[BANK_WORDS];
+static uint16_t memory[NOISE_WORDS];
 static size_t memory_words = NOISE_WORDS; /* lent */
 static int32_t output[OTTO_OUTPUT_VALUES];
 static uint32_t missing;
@@ -167,11 +167,18 @@ static void set_events(uint32_t extra)
     }
 }
 
+/* No word is there that a voice asks for. */
+static void set_missing(uint32_t words)
+{
+    set_voices(0, 0);
+    memory_words = words;
+}
+
 /* All that costs most, at once in every voice: two high passes, codes, the last
-   sample of a bank, whose next is the bank's first, an event with an interrupt
-   while none waits, and four fast ramps in a frame where slow ones rest. The
-   loop mode and the direction are given: they change the cost by little, and
-   which of them costs most depends on the engine. */
+   word of the memory, whose next is missing, an event with an interrupt while
+   none waits, and four fast ramps in a frame where slow ones rest. The loop mode
+   and the direction are given: they change the cost by little, and which of them
+   costs most depends on the engine. */
 static void set_worst(uint32_t mode)
 {
     set_voices(0, MOST_ECOUNT);
@@ -181,11 +188,10 @@ static void set_worst(uint32_t mode)
         voice[VOICE_CR] = CR_IRQE | CR_CMPD | v % 6 * CR_CA0 | mode;
         voice[VOICE_K1RAMP] &= ~1u;
         voice[VOICE_K2RAMP] &= ~1u;
-        set_loop(voice, (BANK_WORDS - 1) * 2048u, 128 * (1 + v % 15), 5);
+        set_loop(voice, (NOISE_WORDS - 1) * 2048u, 128 * (1 + v % 15), 5);
     }
     record[WORD_SLOW] = 1;
     record[WORD_IRQV] = NO_INTERRUPT;
-    memory_words = BANK_WORDS;
 }
 
 /* Samples of one size, from the least on and with either sign. */
@@ -229,10 +235,11 @@ static void must_be_worst(uint32_t mode)
 {
     set_worst(mode);
     for (uint32_t v = 0; v < VOICES; v++) {
-        must(record[v * VOICE_WORDS + VOICE_ACCUM] >> 11 == BANK_WORDS - 1,
-             "each voice is at its bank's last sample");
+        must(record[v * VOICE_WORDS + VOICE_ACCUM] >> 11 == memory_words - 1,
+             "each voice is at the memory's last word");
     }
     must_have_events();
+    must(missing == VOICES, "each voice misses the next word");
     for (uint32_t v = 0; v < VOICES; v++) {
         must(record[v * VOICE_WORDS + VOICE_ECOUNT] == MOST_ECOUNT - 1,
              "each voice's ramps move");
@@ -337,6 +344,7 @@ static const struct {
     { "frame_32", frames_from, set_active, 32 },
     { "frame_stopped", frames_from, set_stopped, CR_STP0 },
     { "frame_events", frames_from, set_events, 0 },
+    { "frame_missing", frames_from, set_missing, 0 },
     { "frame_worst_00", frames_each_from, set_worst, 0 },
     { "frame_worst_01", frames_each_from, set_worst, CR_LPE },
     { "frame_worst_10", frames_each_from, set_worst, CR_BLE },
@@ -398,7 +406,6 @@ static void prepare(void)
     for (size_t i = 0; i < NOISE_WORDS; i++) {
         memory[i] = (uint16_t)random_word();
     }
-    memory[BANK_WORDS - 1] = (uint16_t)random_word();
     (void)engine->reset(record, OTTO_RECORD_WORDS);
 }
 
@@ -413,6 +420,8 @@ int main(int words, char **word)
         return 2;
     }
     prepare();
-    print_word(run_case(word[2], (uint32_t)strtoul(word[3], NULL, 10)));
+    /* How many words the last frame missed counts too. */
+    print_word(run_case(word[2], (uint32_t)strtoul(word[3], NULL, 10)) +
+               missing);
     return 0;
 }

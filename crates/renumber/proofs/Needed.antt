@@ -1,7 +1,8 @@
 -- What the theorem asks is needed: without it the same note sounds otherwise. Each case is computed on the machines of the example, and
 -- compares the first of the twelve values.
--- In order: how loud each case is; that the note sounds; then, each as what may not differ, the sample memory, a write that is no voice's,
--- an active voice that becomes an inactive one, and a channel sum; last the flags, which may come to differ. Assumes nothing.
+-- In order: how loud each case is; that the note sounds, and that it can miss a word; then, each as what may not differ, the sample memory, a
+-- write that is no voice's, an active voice that becomes an inactive one, and a channel sum; last the flags, which may come to differ. Assumes
+-- nothing.
 use mathlib.Core.Path.{_≡_, refl, ap}
 use mathlib.Core.Logic.{_≢_}
 use mathlib.Core.List.{List, [], _∷_}
@@ -11,7 +12,7 @@ use lib.IntN.{ℤ, pos, natAbs}
 use lib.ListN.{getD, set, replicate}
 use Rattle.numbers.specs.Numbers.{floorDiv, floorMod, signed, word, held}
 use Rattle.control.specs.Control.{bitOf, flagOf, withBit, runs, IRQ}
-use Rattle.sample.specs.Sample.{firstAt, secondAt, sampleOf, fetched, fraction, interpolated}
+use Rattle.sample.specs.Sample.{firstAt, secondAt, fetched, missingOf, sampleOf, fraction, interpolated}
 use Rattle.filter.specs.Filter.{lowPass, highPass, coefficient, pole3, pole4, filtered}
 use Rattle.volume.specs.Volume.{mantissa, exponent, volumeOf, panned}
 use Rattle.channel.specs.Channel.{mixed, putOut}
@@ -24,8 +25,11 @@ use Rattle.registers.specs.Registers.{registerOf, lowPage, highPage, sumPage, w
 use Rattle.registers.specs.Access.{byteAnswer, writeRecord, readRecord}
 use Rattle.voice.specs.Turn.{rampedLevels, withOutputs, moved, sampled, stoppedTurn, runningTurn, turnOf, lastOutputs}
 use Rattle.voice.specs.Voice.{wordsOf}
-use Rattle.frame.specs.Frame.{addedTo, added, signalled, turnAt, turns, heard, silenced, closed, played, frameAnswer, frameRecord, frameOutput}
-use Rattle.calls.specs.Calls.{Call, Write, Read, Frame, after, outputFrom, run, outputs}
+use Rattle.voice.specs.Missed.{missedBy}
+use Rattle.frame.specs.Sum.{sum}
+use Rattle.frame.specs.Missing.{missedIn}
+use Rattle.frame.specs.Frame.{addedTo, added, signalled, turnAt, turns, heard, silenced, closed, played, frameAnswer, frameRecord, frameOutput, frameMissing}
+use Rattle.calls.specs.Calls.{Call, Write, Read, Frame, after, givenBy, outputFrom, run, outputs}
 use Rattle.renumber.proofs.Example.{note, machine, one, other}
 
 -- a frame over sample memory that holds one value, lent an output of ones, which a refused frame would leave; and how loud a run is on the
@@ -58,6 +62,11 @@ differ x y h e = h (ap loudness e)
 -- the note sounds, so the theorem does not speak of silence alone
 pub note-sounds : 0 < loudness (outputs one (frame 1000 ∷ []))
 note-sounds = omega (arith, computed .0)
+
+-- nor of frames alone that miss no word: where one word of memory is lent, the note misses the next
+pub note-misses : givenBy one (Frame (1000 ∷ []) (replicate 12 (pos 1))) ≡ 1
+unfolding one machine note putVoice voiceAt fresh wordsFrom resetWord valid cutTo cut bitsOf sharedBits isVector frameAnswer givenBy frameMissing missedIn sum missedBy missingOf fetched firstAt secondAt runs flagOf bitOf
+note-misses = refl
 
 -- each frame gets the same sample memory
 pub memory-needed : outputs one (frame 1000 ∷ []) ≢ outputs other (frame 2000 ∷ [])

@@ -79,12 +79,15 @@ below-last n b i h e f g k = (omega arith, omega arith)
 -- ---- missing words
 
 -- a word of the memory, and one beyond it
+same-word : {a b : ℕ} {p q : Bool} → a ≡ b → p ≡ q → _≡_ {A = Word} (record { bits = a; there = p }) (record { bits = b; there = q })
+same-word e f = λ i. record { bits = e i; there = f i }
+
 module _ (memory : List ℕ) (i : ℕ) where
   pub word-there : i < length memory → record { bits = getD memory i 0; there = true } ≡ wordAt memory i
-  word-there h = rw (lt-ltb i (length memory) h)
+  word-there h = same-word refl (sym (lt-ltb i _ (omega arith)))
 
   pub word-missing : length memory ≤ i → record { bits = 0; there = false } ≡ wordAt memory i
-  word-missing h = rw (List·getD-eq-default memory 0 h, le-ltb i (length memory) h)
+  word-missing h = same-word (sym (List·getD-eq-default memory 0 h)) (sym (le-ltb i _ (omega arith)))
 
 pub same-words : {a b c d : Word} → a ≡ b → c ≡ d → _≡_ {A = Words} (record { first = a; second = c }) (record { first = b; second = d })
 same-words e f = λ i. record { first = e i; second = f i }

@@ -5,7 +5,7 @@
 -- (`turn-flag`: as it was, or on where the turn raises it). The flag after the address step alone is `address/proofs/LoopEvent`; what the frame
 -- does with it is `frame/proofs/Leaves`. Assumes nothing.
 use mathlib.Core.Path.{_≡_, refl, sym, ap, _∙_}
-use mathlib.Core.Bool.{cond, _||_, or-false}
+use mathlib.Core.Bool.{_||_, or-false}
 use mathlib.Core.List.{List}
 use Prim.Native.Nat.{ℕ}
 use native.Mathlib.Omega.{arith}
@@ -13,7 +13,7 @@ use lib.IntN.{ℤ, pos}
 use Rattle.numbers.proofs.Tests.{split, alongside}
 use Rattle.control.specs.Control.{flagOf, runs, LP3, LP4, CMPD, IRQ}
 use Rattle.control.proofs.Agree.{AgreeBut, flag-agrees, bank-agrees, runs-agrees}
-use Rattle.sample.specs.Sample.{fetched, sampleOf, fraction, interpolated, missingOf}
+use Rattle.sample.specs.Sample.{fetched, sampleOf, fraction, interpolated}
 use Rattle.sample.proofs.Laws.{sample-coded, fetched-bank}
 use Rattle.filter.specs.Filter.{filtered}
 use Rattle.filter.proofs.Laws.{filtered-passes}
@@ -90,7 +90,7 @@ module _ (v w : Voice) (h : ButFlag v w) where
 
   pub same-missed : (memory : List ℕ) → missedBy memory v ≡ missedBy memory w
   unfolding missedBy
-  same-missed memory = λ i. cond (runs-agrees (v .cr) (w .cr) (h .cr) i) (missingOf (same-fetch memory i)) 0
+  same-missed memory = rw (runs-agrees (v .cr) (w .cr) (h .cr), same-fetch memory)
 
   same-levels : (slow : ℕ) → rampedLevels slow v ≡ rampedLevels slow w
   unfolding besideCR rampedLevels
