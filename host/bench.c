@@ -167,7 +167,7 @@ static void set_events(uint32_t extra)
     }
 }
 
-/* No word is there that a voice asks for. */
+/* Memory of so few words that all that the voices ask for lies beyond it. */
 static void set_missing(uint32_t words)
 {
     set_voices(0, 0);
@@ -249,6 +249,10 @@ static void must_be_worst(uint32_t mode)
 
 static uint32_t run_claims(uint32_t times)
 {
+    set_missing(0);
+    must(one_frame() == OTTO_DONE, "the frame is done");
+    must(missing == 2 * VOICES, "each voice misses both words");
+    memory_words = NOISE_WORDS;
     set_events(0);
     for (uint32_t i = 0; i < times; i++) {
         must_have_events();
@@ -411,6 +415,8 @@ static void prepare(void)
 
 int main(int words, char **word)
 {
+    uint32_t given;
+
     if (words == 2 && strcmp(word[1], "cases") == 0) {
         return print_cases();
     }
@@ -420,8 +426,7 @@ int main(int words, char **word)
         return 2;
     }
     prepare();
-    /* How many words the last frame missed counts too. */
-    print_word(run_case(word[2], (uint32_t)strtoul(word[3], NULL, 10)) +
-               missing);
+    given = run_case(word[2], (uint32_t)strtoul(word[3], NULL, 10));
+    print_word(given + missing); /* words that the last frame missed */
     return 0;
 }

@@ -1089,15 +1089,21 @@ static void bank_ends(void)
 
 /* ==== frame: missing words ================================================ */
 
-/* How many words are missing where voice 0 alone runs. */
+/* How many words a frame misses, which has to be done. */
+static uint32_t missed_now(const uint16_t *memory, size_t length)
+{
+    missing = 77;
+    check("a frame that counts", frame(memory, length), 0);
+    return missing;
+}
+
+/* And where voice 0 alone runs, or is stopped. */
 static uint32_t missed(uint32_t cr, uint32_t accum, size_t length)
 {
     fresh();
     steady(0, 0, cr);
     W(0, 13) = accum;
-    missing = 77;
-    (void)frame(whole, length);
-    return missing;
+    return missed_now(whole, length);
 }
 
 static void missing_words(void)
@@ -1115,17 +1121,22 @@ static void missing_words(void)
     check("codes", missed(0x2000, 15 * 2048u, 16), 1);
 
     /* At the end of a bank the next word is the bank's first. */
-    check("bank 0 wraps, one word", missed(0, 0xFFFFF800u, 1), 1);
-    check("bank 0 wraps, no word", missed(0, 0xFFFFF800u, 0), 2);
-    check("bank 0 wraps, all but one", missed(0, 0xFFFFF800u, 2097151), 1);
-    check("bank 0 wraps, all", missed(0, 0xFFFFFFFFu, 2097152), 0);
     check("bank 1, none of it", missed(0x4000, 0, 2097152), 2);
     check("bank 1, a word of it", missed(0x4000, 0, 2097153), 1);
     check("bank 1, two words of it", missed(0x4000, 0, 2097154), 0);
-    check("bank 2 wraps, none of it", missed(0x8000, 0xFFFFF800u, 4194304), 2);
-    check("bank 2 wraps, a word of it", missed(0x8000, 0xFFFFF800u, 4194305), 1);
-    check("bank 3 wraps, all but one", missed(0xC000, 0xFFFFF800u, 8388607), 1);
-    check("bank 3 wraps, all", missed(0xC000, 0xFFFFF800u, 8388608), 0);
+    for (uint32_t bank = 0; bank < 4; bank++) {
+        uint32_t cr = 0x4000 * bank;
+        size_t start = 2097152 * (size_t)bank;
+
+        check_at("wraps, none of it", bank, 0, missed(cr, 0xFFFFF800u, start),
+                 2);
+        check_at("wraps, a word of it", bank, 0,
+                 missed(cr, 0xFFFFF800u, start + 1), 1);
+        check_at("wraps, all but one", bank, 0,
+                 missed(cr, 0xFFFFFFFFu, start + 2097151), 1);
+        check_at("wraps, all", bank, 0,
+                 missed(cr, 0xFFFFFFFFu, start + 2097152), 0);
+    }
 
     /* A stopped voice asks for none, whoever stopped it. */
     check("stopped by itself", missed(1, 0, 0), 0);
@@ -1145,11 +1156,9 @@ static void missing_of_all(void)
         for (voice = 0; voice < 32; voice++) {
             steady(voice, 0, 0);
         }
-        check_at("all beyond", last, 0, frame(NULL, 0), 0);
-        check_at("all beyond", last, 1, missing, 2 * (last + 1));
+        check_at("all beyond", last, 0, missed_now(NULL, 0), 2 * (last + 1));
         W(3, 0) = 2;
-        check_at("one stopped", last, 0, frame(NULL, 0), 0);
-        check_at("one stopped", last, 1, missing, 2 * last);
+        check_at("one stopped", last, 0, missed_now(NULL, 0), 2 * last);
     }
 }
 
@@ -1161,12 +1170,12 @@ static void missing_as_it_begins(void)
     W(0, 1) = 2048;
     W(0, 12) = 17 * 2048u;
     W(0, 13) = 14 * 2048u;
-    check("first step", frame(loud, 16) + missing, 0);
-    check("second step", frame(loud, 16) + missing, 1);
-    check("third step", frame(loud, 16) + missing, 2);
-    check("to END, and beyond", frame(loud, 16) + missing, 2);
+    check("first step", missed_now(loud, 16), 0);
+    check("second step", missed_now(loud, 16), 1);
+    check("third step", missed_now(loud, 16), 2);
+    check("to END, and beyond", missed_now(loud, 16), 2);
     check("it has stopped", W(0, 0), 0x0301);
-    check("stopped", frame(loud, 16) + missing, 0);
+    check("stopped", missed_now(loud, 16), 0);
 }
 
 /* ==== frame: filters ====================================================== */
@@ -1666,9 +1675,10 @@ static void (*const groups[])(void) = {
     valid_latches_and_signs, refusals, refused_arguments, few_voices,
     five_voices, register_map, latches, shared_latch, channels_by_byte,
     taken_values, vector_and_flags, odd_registers, sample, bank_ends,
-    missing_words, missing_of_all, missing_as_it_begins, filters, pole_edges, halving, range, volume, what_sounds, written_sums, address,
-    address_rest, ramps, slow_ramps, values_before_ramps, events,
-    waiting_interrupts, idle_frames,
+    missing_words, missing_of_all, missing_as_it_begins, filters, pole_edges,
+    halving, range, volume, what_sounds, written_sums, address, address_rest,
+    ramps, slow_ramps, values_before_ramps, events, waiting_interrupts,
+    idle_frames,
 };
 
 int main(void)

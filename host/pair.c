@@ -32,11 +32,11 @@ struct lent {
     uint32_t *missing;
 };
 
-#define RECORD_BYTES ((MOST_RECORD + MOST_BEHIND) * sizeof(uint32_t))
-#define OUTPUT_BYTES (MOST_OUTPUT * sizeof(int32_t))
-#define BYTE_BYTES   16u
+#define RECORD_BYTES  ((MOST_RECORD + MOST_BEHIND) * sizeof(uint32_t))
+#define OUTPUT_BYTES  (MOST_OUTPUT * sizeof(int32_t))
+#define BYTE_BYTES    16u
 #define MISSING_BYTES 16u
-#define UNSET        0xEEEEEEEEu
+#define UNSET         0xEEEEEEEEu /* in the number's place before a frame */
 
 struct pair_counts pair_counts;
 

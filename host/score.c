@@ -352,7 +352,7 @@ static void play_ends(void)
         frames(1);
         set_control(first + voice, CR_STP1);
     }
-    frames(1);
+    frames(2); /* eighty in all, so that the slow-ramp counter comes round */
 }
 
 /* All voices of the table; the host answers an interrupt every fourth frame,

@@ -273,9 +273,9 @@ static void find_lasts(uint32_t *lasts, size_t memory_words)
 }
 
 /* The words that are missing are added to a number: none on the likely way. */
-static int32_t sample_of(uint32_t cr, uint32_t accum, const uint16_t *memory,
-                         size_t memory_words, const uint32_t *lasts,
-                         uint32_t *missing)
+static int32_t input_of(uint32_t cr, uint32_t accum, const uint16_t *memory,
+                        size_t memory_words, const uint32_t *lasts,
+                        uint32_t *missing)
 {
     uint32_t bank = (cr >> 14) * BANK_WORDS;
     uint32_t index = accum >> 11;
@@ -465,8 +465,8 @@ static UNFOLD void turn(uint32_t *record, uint32_t v, uint32_t slow,
     int32_t o;
 
     if (runs) {
-        x = sample_of(cr, voice[VOICE_ACCUM], memory, memory_words, lasts,
-                      missing);
+        x = input_of(cr, voice[VOICE_ACCUM], memory, memory_words, lasts,
+                     missing);
     }
     o = filter(voice, cr, x) >> 2;
     if (runs) {

@@ -2,15 +2,17 @@
  * libotto: the voice engine of the ES5506, for hosts in C and C++.
  *
  * The engine owns nothing. The host lends a machine record of 663 words to
- * every call, and sample memory and an output to a frame; what a call does is
- * fixed by what is lent and nothing else. There is no global state, no
+ * every call, to a frame also sample memory, an output and a place for a
+ * number, and to a read a place for a byte; what a call does is fixed by what
+ * is lent and nothing else. There is no global state, no
  * allocation, no file and no lock, so any number of records may be in use,
  * and two threads may call at once if neither lends a buffer that the other
  * one's call may change. Sample memory is only read: threads may share it.
  *
  * Every pointer must be aligned for its type, must point at as many values as
- * the length after it says, and must not be null, even where that length is
- * 0. Buffers of one call must not overlap.
+ * the length after it says, or at one where no length comes after it, and must
+ * not be null, even where that length is 0. Buffers of one call must not
+ * overlap.
  *
  * A call on a record answers 0 or the number of its refusal. It asks in the
  * order in which its refusals are listed below, and a refused call changes no
@@ -95,6 +97,7 @@ uint32_t otto_set_pot(uint32_t *record, size_t words, uint32_t pot);
  * where ACCUM is at a whole sample and the next is not heard. A word beyond the
  * lent memory is missing, and sounds as 0. So a number above 0 says that a note
  * reads past the set that is loaded; with memory of four banks it is always 0.
+ * A host that does not want the number lends a place for it all the same.
  *
  * ACTV, register 11 of pages 0 to 31, is the number of the last active voice;
  * a reset makes it 31. At least five voices must be active, stopped or not, so

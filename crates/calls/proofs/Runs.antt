@@ -2,7 +2,8 @@
 -- In order: the record, the answers and the output of two runs one after the other (`run-both`, `answers-both`, `outputs-both`); a run split at
 -- a call (`outputs-at`); a frame, refused or not (`after-frame`): the record stays valid (`frame-sound`), and each shared word that no frame
 -- touches stays as it was (`frame-word`); one that is not refused: what it leaves, puts out and misses (`frame-leaves`, `frame-sounds`,
--- `frame-misses`). What turns and closing leave of voices and sums is `frame/proofs/Leaves`; what a byte written or read leaves is the crate `registers`. Assumes nothing.
+-- `frame-misses`). What turns and closing leave of voices and sums is `frame/proofs/Leaves`; what a byte written or read leaves is the crate
+-- `registers`. Assumes nothing.
 use mathlib.Core.Path.{_≡_, refl, sym, ap, _∙_}
 use mathlib.Core.Logic.{_≢_}
 use mathlib.Core.List.{List, [], _∷_, _++_, append-assoc}

@@ -80,7 +80,8 @@ chords-heard = refl
 -- ---- missing words
 
 -- The memory has twelve words. A voice that reaches its last one misses the next, which is not heard, since the voice is at a whole sample;
--- one beyond it misses both; and the last word of the bank is missing, where the next is the bank's first, which is there.
+-- one beyond it misses both; and the last word of the bank is missing, where the next is the bank's first, which is there. A voice whose CR is
+-- 777 or 778 has STP0 or STP1, and misses none.
 abbrev ends : List ℕ
 ends = note 22528 131068
 

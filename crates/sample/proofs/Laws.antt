@@ -16,7 +16,7 @@ use Rattle.numbers.proofs.Difference.{_⊖_, ⊖-eq, ⊖-add, ⊖-sub, ⊖-mul}
 use Rattle.numbers.proofs.Words.{biased, bits-⊖, floor-up}
 use Rattle.codes.specs.Codes.{valueOf}
 use Rattle.control.specs.Control.{flagOf, bankOf, CMPD}
-use Rattle.sample.specs.declared.Word.{Word}
+use Rattle.sample.specs.declared.MemoryWord.{MemoryWord}
 use Rattle.sample.specs.declared.Words.{Words}
 use Rattle.sample.specs.Sample.{MOST_MEMORY_WORDS, wordAt, firstAt, secondAt, sampleOf, fetched, missingOf, interpolated}
 use Rattle.sample.specs.Lasts.{lastOf}
@@ -79,7 +79,7 @@ below-last n b i h e f g k = (omega arith, omega arith)
 -- ---- missing words
 
 -- a word of the memory, and one beyond it
-same-word : {a b : ℕ} {p q : Bool} → a ≡ b → p ≡ q → _≡_ {A = Word} (record { bits = a; there = p }) (record { bits = b; there = q })
+same-word : {a b : ℕ} {p q : Bool} → a ≡ b → p ≡ q → _≡_ {A = MemoryWord} (record { bits = a; there = p }) (record { bits = b; there = q })
 same-word e f = λ i. record { bits = e i; there = f i }
 
 module _ (memory : List ℕ) (i : ℕ) where
@@ -89,7 +89,7 @@ module _ (memory : List ℕ) (i : ℕ) where
   pub word-missing : length memory ≤ i → record { bits = 0; there = false } ≡ wordAt memory i
   word-missing h = same-word (sym (List·getD-eq-default memory 0 h)) (sym (le-ltb i _ (omega arith)))
 
-pub same-words : {a b c d : Word} → a ≡ b → c ≡ d → _≡_ {A = Words} (record { first = a; second = c }) (record { first = b; second = d })
+pub same-words : {a b c d : MemoryWord} → a ≡ b → c ≡ d → _≡_ {A = Words} (record { first = a; second = c }) (record { first = b; second = d })
 same-words e f = λ i. record { first = e i; second = f i }
 
 pub one-most : (there : Bool) → cond there 0 1 ≤ 1

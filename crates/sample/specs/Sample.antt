@@ -9,7 +9,7 @@ use lib.ListN.{length, getD}
 use Rattle.numbers.specs.Numbers.{floorDiv, signed}
 use Rattle.codes.specs.Codes.{valueOf}
 use Rattle.control.specs.Control.{flagOf, bankOf, CMPD}
-use Rattle.sample.specs.declared.Word.{Word}
+use Rattle.sample.specs.declared.MemoryWord.{MemoryWord}
 use Rattle.sample.specs.declared.Words.{Words}
 
 -- how many words a bank has, and how many the memory may have at most: four banks
@@ -20,7 +20,7 @@ abbrev pub MOST_MEMORY_WORDS : ℕ
 MOST_MEMORY_WORDS = 4 * BANK_WORDS
 
 -- a word of the lent memory, and whether it is there; one beyond the memory is 0, and is not
-abbrev pub wordAt : List ℕ → ℕ → Word
+abbrev pub wordAt : List ℕ → ℕ → MemoryWord
 wordAt memory i = record { bits = getD memory i 0; there = ltb i (length memory) }
 
 -- the words of the first and of the second sample: one at ACCUM's whole part, in the voice's bank, and the next, which wraps within

@@ -15,15 +15,15 @@ pub const BANK_WORDS: u32 = 2097152;
 pub const MOST_MEMORY_WORDS: usize = 4 * 2097152;
 
 // A word that was asked for, 0 where it was not there, and whether it was.
-pub struct Word {
+pub struct MemoryWord {
     pub bits: u16,
     pub there: bool,
 }
 
 // The two words of a fetch.
 pub struct Words {
-    pub first: Word,
-    pub second: Word,
+    pub first: MemoryWord,
+    pub second: MemoryWord,
 }
 
 // The value between the two samples that the voice is at, of 18 bits. The words of them that are missing are added to a number. They are
@@ -94,11 +94,11 @@ fn words_at(memory: &[u16], last: usize, at: usize, next: usize) -> Words
 {
     if at < last {
         return Words {
-            first: Word {
+            first: MemoryWord {
                 bits: memory[at],
                 there: true,
             },
-            second: Word {
+            second: MemoryWord {
                 bits: memory[at + 1],
                 there: true,
             },
@@ -111,16 +111,16 @@ fn words_at(memory: &[u16], last: usize, at: usize, next: usize) -> Words
 }
 
 // A word of the memory; beyond it 0, which is not there.
-fn word_at(memory: &[u16], at: usize) -> Word
+fn word_at(memory: &[u16], at: usize) -> MemoryWord
     ensures { λ r. ⌜ r ≡ wordAt (now (memory .entry)) at ⌝ }
 {
     if at < memory.len() {
-        Word {
+        MemoryWord {
             bits: memory[at],
             there: true,
         }
     } else {
-        Word {
+        MemoryWord {
             bits: 0,
             there: false,
         }

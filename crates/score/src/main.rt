@@ -5,8 +5,8 @@
 // kind 0: reset. 1: write the byte at the address that the number gives. 2: read there. 3: set the pot result to the number. 4: run a frame.
 //
 // Each command gives one line: the answer's number, for a read also the byte, for a frame also how many words were missing and the twelve
-// values. A command of any other kind gives the line "no call". A last command that is cut short is left out, and so is all that stands after 65,536 bytes; a score whose
-// sample memory is cut short gives no line.
+// values. A command of any other kind gives the line "no call". A last command that is cut short is left out, and so is all that stands after
+// 65,536 bytes; a score whose sample memory is cut short gives no line.
 ghost use mathlib.Core.Path.{_≡_};
 ghost use Prim.Native.Nat.{_+_, _*_, _≤_};
 ghost use lib.IntN.{natAbs};
@@ -80,7 +80,7 @@ fn say(ask: Ask, reply: Reply, out: &[i32]) {
     io::write_all(STDOUT_FILENO, b"\n");
 }
 
-// A space, and a number after it: what a call gives beside its answer, or a value of the output.
+// A space, and the number that a call gives beside its answer.
 fn say_number(n: u32) {
     io::write_all(STDOUT_FILENO, b" ");
     io::print_decimal(STDOUT_FILENO, n as u64);
@@ -92,6 +92,7 @@ fn say_values(out: &[i32]) {
     }
 }
 
+// A space, and a value of the output.
 fn say_value(z: i32) {
     io::write_all(STDOUT_FILENO, b" ");
     if z < 0 {

@@ -5,24 +5,27 @@
 -- `volumeOf` is `panned` once o = O4 / 4 is taken. Before the table stands what its rows share; after it also what figures 5, 8 and 12 say of
 -- every value. Assumes nothing.
 use mathlib.Core.Path.{_≡_, refl, _∙_}
-use mathlib.Core.List.{List, [], _∷_, map}
+use mathlib.Core.List.{List, [], _∷_, _++_, map}
 use mathlib.Core.Bool.{false}
 use Prim.Native.Nat.{ℕ, zero, suc, _+_, _<_}
 use native.Mathlib.Nat.{mul-zero}
 use native.Mathlib.Omega.{arith}
 use lib.IntN.{ℤ, pos}
+use lib.ListN.{replicate}
 use lib.Signed.{leZ-yes}
 use Rattle.numbers.specs.Numbers.{floorDiv, floorMod, minus, signed, word, held}
 use Rattle.codes.specs.Codes.{valueOf, Compressed, bestBelow, codeOf}
 use Rattle.codes.proofs.Samples.{compressed-is}
-use Rattle.control.specs.Control.{STP0, LPE, BLE, DIR, bitOf, flagOf, withBit}
-use Rattle.sample.specs.Sample.{interpolated}
+use Rattle.control.specs.Control.{STP0, LPE, BLE, DIR, bitOf, flagOf, withBit, runs}
+use Rattle.sample.specs.Sample.{firstAt, secondAt, fetched, missingOf, interpolated}
 use Rattle.filter.specs.Filter.{lowPass, highPass}
 use Rattle.volume.specs.Volume.{mantissa, exponent, volumeOf}
 use Rattle.channel.specs.Channel.{mixed, putOut}
 use Rattle.address.specs.Address.{raised, forwardEvent, reverseEvent, forward, reverse, stepped}
 use Rattle.address.proofs.Laws.{same-place, on-within}
 use Rattle.ramp.specs.Ramp.{increment, ramped}
+use Rattle.voice.specs.Voice.{Voice, voiceOf}
+use Rattle.voice.specs.Missed.{missedBy}
 
 -- a channel after n voices have added z to it, from 0 on
 mixedTimes : ℕ → ℤ → ℕ
@@ -57,6 +60,13 @@ accumAfter r = pos (stepped (r .cr) (r .fc) (r .start) (r .end) (r .accum) .accu
 
 bitAfter : ℕ → Registers → ℤ
 bitAfter n r = pos (bitOf n (stepped (r .cr) (r .fc) (r .start) (r .end) (r .accum) .cr))
+
+-- a voice by CR and ACCUM, all else 0, and how many words it misses in a memory of one
+abbrev placed : ℕ → ℕ → Voice
+placed CR ACCUM = voiceOf (CR ∷ replicate 12 0 ++ ACCUM ∷ [])
+
+missedOfOne : ℕ → ℕ → ℤ
+missedOfOne CR ACCUM = pos (missedBy (1000 ∷ []) (placed CR ACCUM))
 
 pub figures : List (ℤ × ℤ)
 figures =
@@ -108,10 +118,16 @@ figures =
     ∷ (highPass 1 (pos 0) (pos 0) (minus 1), minus 1)
     -- Beside the thirteen, a target past the end of the addresses: it is past END. Tested after it has wrapped, it would be 72 and no event.
     ∷ (accumAfter (record { cr = loops; fc = 200; start = 2048; end = 4294967168; accum = 4294967168 }), pos 2248)
+    -- And words that are missing, where the memory has one: the voice is at that word, and the next is missing, though it is not heard; at the
+    -- bank's last word, which is missing, and the next is that word; at the second word, both; and there, stopped.
+    ∷ (missedOfOne 0 0, pos 1)
+    ∷ (missedOfOne 0 4294965248, pos 1)
+    ∷ (missedOfOne 0 2048, pos 2)
+    ∷ (missedOfOne (withBit STP0 1 0) 2048, pos 0)
     ∷ []
 
 pub figures-hold : map (λ (row : ℤ × ℤ). row .0) figures ≡ map (λ (row : ℤ × ℤ). row .1) figures
-unfolding figures mixedTimes accumAfter bitAfter floorDiv floorMod signed word held valueOf bestBelow codeOf bitOf flagOf withBit interpolated lowPass highPass mantissa exponent volumeOf mixed putOut raised forwardEvent reverseEvent forward reverse stepped increment ramped
+unfolding figures missedOfOne missedBy missingOf fetched firstAt secondAt runs mixedTimes accumAfter bitAfter floorDiv floorMod signed word held valueOf bestBelow codeOf bitOf flagOf withBit interpolated lowPass highPass mantissa exponent volumeOf mixed putOut raised forwardEvent reverseEvent forward reverse stepped increment ramped
 figures-hold = refl
 
 -- Whatever code the promise allows for these samples is the table's.

@@ -1,9 +1,8 @@
 -- The interrupt flag and a turn.
 -- In order: two voices that hold the same registers, interrupt flags excepted (`besideCR`, `ButFlag`); what the turn reads of them, by which they
--- miss as many words (`same-missed`); a turn does
--- not heed the flag (`SameTurn`, `same-turn`: they add the same, and are such voices after it); the flag after a turn
--- (`turn-flag`: as it was, or on where the turn raises it). The flag after the address step alone is `address/proofs/LoopEvent`; what the frame
--- does with it is `frame/proofs/Leaves`. Assumes nothing.
+-- miss as many words (`same-missed`); a turn does not heed the flag (`SameTurn`, `same-turn`: they add the same, and are such voices after
+-- it); the flag after a turn (`turn-flag`: as it was, or on where the turn raises it). The flag after the address step alone is
+-- `address/proofs/LoopEvent`; what the frame does with it is `frame/proofs/Leaves`. Assumes nothing.
 use mathlib.Core.Path.{_≡_, refl, sym, ap, _∙_}
 use mathlib.Core.Bool.{_||_, or-false}
 use mathlib.Core.List.{List}

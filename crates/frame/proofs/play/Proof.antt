@@ -34,7 +34,7 @@ record Playing (first memory lasts : List ℕ) (table : List ℤ) (slow n : ℕ)
   most : n ≤ 32
   passed : v ≤ n
   so-far : m ≡ turns memory v first
-  missed : missing ≡ missedInTurns memory v first
+  number : missing ≡ missedInTurns memory v first
 
 abbrev Inv-loop : tie.InvT-loop
 Inv-loop m₀ memory lasts table slow actv n missing₀ v₀ m missing v = Playing m₀ memory lasts table slow n m missing v
@@ -56,7 +56,7 @@ loop-holds c =
       most = omega (arith, c .count .ensures, active-le (s .args .m .now) r);
       passed = omega arith;
       so-far = refl;
-      missed = refl;
+      number = refl;
     }
 
 turn-requires : tie.Need-turn-requires Inv-loop μ-loop
@@ -70,7 +70,7 @@ turn-requires c κs =
         omega arith,
         (
           h .counter ∙ sym (ap (λ (x : List ℕ). getD x SLOW 0) (h .so-far) ∙ slow-stays (turned memory (l .v) few (h .whole))),
-          (h .near, (h .codes, omega (arith, h .missed, missed-in-turns-most memory (l .v) (c .before .before .before .before .before .before .before .before .before .before .before .before .before .args .m .now)))),
+          (h .near, (h .codes, omega (arith, h .number, missed-in-turns-most memory (l .v) (c .before .before .before .before .before .before .before .before .before .before .before .before .before .args .m .now)))),
         ),
       ),
     )
@@ -91,7 +91,7 @@ loop-again c =
       most = h .most;
       passed = omega arith;
       so-far = rw add-one (t .ensures .0 ∙ ap (turnAt memory (l .v)) (h .so-far));
-      missed = rw add-one (t .ensures .1 ∙ (λ i. h .missed i + missedBy memory (voiceOf (voiceAt (h .so-far i) (l .v)))));
+      number = rw add-one (t .ensures .1 ∙ (λ i. h .number i + missedBy memory (voiceOf (voiceAt (h .so-far i) (l .v)))));
     }
 
 -- the record after the turns so far has as many words as the first
@@ -111,7 +111,7 @@ returns c =
     let memory = now (s .args .memory) in
     let m = s .args .m .now in
     let e : l .v ≡ getD m ACTV 0 + 1 = omega (arith, h .active, h .passed, c .loop-test .left) in
-    (h .so-far ∙ ap (λ (k : ℕ). turns memory k m) e, h .missed ∙ ap (λ (k : ℕ). missedInTurns memory k m) e ∙ missed-in-turns memory (h .whole))
+    (h .so-far ∙ ap (λ (k : ℕ). turns memory k m) e, h .number ∙ ap (λ (k : ℕ). missedInTurns memory k m) e ∙ missed-in-turns memory (h .whole))
 
 pub play-spec : {M : Type 1} → statement M
 play-spec =
