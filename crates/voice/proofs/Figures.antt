@@ -2,8 +2,8 @@
 -- `figures-hold` says that the table's two columns are the same list, by computation, so a new figure is a new row and nothing else.
 -- The definitions are those that contracts cite, with two exceptions. Samples are compressed by the promise `Compressed`, which says what
 -- the code has to be and not how to find it, and `codeOf` finds it; so figure 2 stands once more after the table, over the promise. And
--- `volumeOf` is `panned` once o = O4 / 4 is taken. Before the table stands what its rows share; after it also what figures 5, 8 and 12 say of
--- every value. Assumes nothing.
+-- `volumeOf` is `panned` once o = O4 / 4 is taken. Before the table stands what its rows share; after it also a table of words that a voice
+-- misses, and what figures 5, 8 and 12 say of every value. Assumes nothing.
 use mathlib.Core.Path.{_≡_, refl, _∙_}
 use mathlib.Core.List.{List, [], _∷_, _++_, map}
 use mathlib.Core.Bool.{false}
@@ -61,13 +61,6 @@ accumAfter r = pos (stepped (r .cr) (r .fc) (r .start) (r .end) (r .accum) .accu
 bitAfter : ℕ → Registers → ℤ
 bitAfter n r = pos (bitOf n (stepped (r .cr) (r .fc) (r .start) (r .end) (r .accum) .cr))
 
--- a voice by CR and ACCUM, all else 0, and how many words it misses in a memory of one
-abbrev placed : ℕ → ℕ → Voice
-placed CR ACCUM = voiceOf (CR ∷ replicate 12 0 ++ ACCUM ∷ [])
-
-missedOfOne : ℕ → ℕ → ℤ
-missedOfOne CR ACCUM = pos (missedBy (1000 ∷ []) (placed CR ACCUM))
-
 pub figures : List (ℤ × ℤ)
 figures =
     -- 1. codes expanded: the greatest value, and the ends of exponent 0
@@ -118,22 +111,34 @@ figures =
     ∷ (highPass 1 (pos 0) (pos 0) (minus 1), minus 1)
     -- Beside the thirteen, a target past the end of the addresses: it is past END. Tested after it has wrapped, it would be 72 and no event.
     ∷ (accumAfter (record { cr = loops; fc = 200; start = 2048; end = 4294967168; accum = 4294967168 }), pos 2248)
-    -- And words that are missing, where the memory has one: the voice is at that word, and the next is missing, though it is not heard; at the
-    -- bank's last word, which is missing, and the next is that word; at the second word, both; and there, stopped.
-    ∷ (missedOfOne 0 0, pos 1)
-    ∷ (missedOfOne 0 4294965248, pos 1)
-    ∷ (missedOfOne 0 2048, pos 2)
-    ∷ (missedOfOne (withBit STP0 1 0) 2048, pos 0)
     ∷ []
 
 pub figures-hold : map (λ (row : ℤ × ℤ). row .0) figures ≡ map (λ (row : ℤ × ℤ). row .1) figures
-unfolding figures missedOfOne missedBy missingOf fetched firstAt secondAt runs mixedTimes accumAfter bitAfter floorDiv floorMod signed word held valueOf bestBelow codeOf bitOf flagOf withBit interpolated lowPass highPass mantissa exponent volumeOf mixed putOut raised forwardEvent reverseEvent forward reverse stepped increment ramped
+unfolding figures mixedTimes accumAfter bitAfter floorDiv floorMod signed word held valueOf bestBelow codeOf bitOf flagOf withBit interpolated lowPass highPass mantissa exponent volumeOf mixed putOut raised forwardEvent reverseEvent forward reverse stepped increment ramped
 figures-hold = refl
 
 -- Whatever code the promise allows for these samples is the table's.
 pub promised-codes : {c : ℕ} → (Compressed (minus 17) c → c ≡ 0x1E) × (Compressed (pos 256) c → c ≡ 0x30)
 unfolding valueOf bestBelow codeOf
 promised-codes = (compressed-is (leZ-yes tt), compressed-is (leZ-yes tt))
+
+-- ---- words that a voice misses
+
+-- a voice by CR and ACCUM, all else 0, and how many words it misses where the memory has one
+abbrev placed : ℕ → ℕ → Voice
+placed CR ACCUM = voiceOf (CR ∷ replicate 12 0 ++ ACCUM ∷ [])
+
+missedOfOne : ℕ → ℕ → ℕ
+missedOfOne CR ACCUM = missedBy (1000 ∷ []) (placed CR ACCUM)
+
+-- At that word the next is missing, though it is not heard; at the bank's last word that one is, and the next is the word that is there; at the
+-- second word both are. A voice that is stopped there misses none.
+pub missed : List (ℕ × ℕ)
+missed = (missedOfOne 0 0, 1) ∷ (missedOfOne 0 4294965248, 1) ∷ (missedOfOne 0 2048, 2) ∷ (missedOfOne (withBit STP0 1 0) 2048, 0) ∷ []
+
+pub missed-hold : map (λ (row : ℕ × ℕ). row .0) missed ≡ map (λ (row : ℕ × ℕ). row .1) missed
+unfolding missed missedOfOne missedBy missingOf fetched firstAt secondAt runs flagOf bitOf withBit
+missed-hold = refl
 
 -- ---- figures that hold of every value
 

@@ -34,11 +34,10 @@ returns c =
     let n = s .args .accum % 2048 / 4 in
     let f = t .before .before .before .before .fetch .ensures in
     let a = c .before .before .sample-of in
-    let b = c .before .sample-of2 in (
-      handed w32 (Bits 18) (c .blend .ok) (c .blend .ensures)
-          (rw (back w32 (a .ok), back w32 (b .ok), a .ensures .0, b .ensures .0) (ap (λ (w : Words). interpolated n (sampleOf (s .args .cr) (w .first .bits)) (sampleOf (s .args .cr) (w .second .bits))) f)),
-      counted t,
-    )
+    let b = c .before .sample-of2 in
+    let s1 = back w32 (a .ok) ∙ a .ensures .0 ∙ ap (λ (w : Words). sampleOf (s .args .cr) (w .first .bits)) f in
+    let s2 = back w32 (b .ok) ∙ b .ensures .0 ∙ ap (λ (w : Words). sampleOf (s .args .cr) (w .second .bits)) f in
+    (handed w32 (Bits 18) (c .blend .ok) (c .blend .ensures) (λ i. interpolated n (s1 i) (s2 i)), counted t)
 
 pub interpolate-spec : {M : Type 1} → statement M
 interpolate-spec =
