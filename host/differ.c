@@ -45,7 +45,8 @@ static int few_met(const struct pair_counts *n)
     return enough;
 }
 
-/* Whether frames that missed none, one, two, three words and more were. */
+/* Whether frames that missed no word, one, two, three, and more, were each met
+   often enough. */
 static int missed_met(const struct pair_counts *n)
 {
     int enough = 1;

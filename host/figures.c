@@ -1089,7 +1089,7 @@ static void bank_ends(void)
 
 /* ==== frame: missing words ================================================ */
 
-/* How many words a frame misses, which has to be done. */
+/* How many words are missing in a frame, which must not be refused. */
 static uint32_t missed_now(const uint16_t *memory, size_t length)
 {
     missing = 77;
@@ -1097,7 +1097,7 @@ static uint32_t missed_now(const uint16_t *memory, size_t length)
     return missing;
 }
 
-/* And where voice 0 alone runs, or is stopped. */
+/* The same in a frame where all voices but voice 0 are stopped. */
 static uint32_t missed(uint32_t cr, uint32_t accum, size_t length)
 {
     fresh();
@@ -1120,10 +1120,12 @@ static void missing_words(void)
     check("past the last word", missed(0, 16 * 2048u, 16), 2);
     check("codes", missed(0x2000, 15 * 2048u, 16), 1);
 
-    /* At the end of a bank the next word is the bank's first. */
+    /* At the start of a bank that the memory reaches, or does not. */
     check("bank 1, none of it", missed(0x4000, 0, 2097152), 2);
     check("bank 1, a word of it", missed(0x4000, 0, 2097153), 1);
     check("bank 1, two words of it", missed(0x4000, 0, 2097154), 0);
+
+    /* At the end of a bank the next word is the bank's first. */
     for (uint32_t bank = 0; bank < 4; bank++) {
         uint32_t cr = 0x4000 * bank;
         size_t start = 2097152 * (size_t)bank;

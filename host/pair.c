@@ -177,9 +177,12 @@ static uint32_t compare(const char *call, const uint32_t answers[2])
     if (unlike(lents[0].byte, lents[1].byte, BYTE_BYTES)) {
         stop(call, "the bytes differ");
     }
-    if (unlike(lents[0].missing, lents[1].missing, MISSING_BYTES)) {
+    if (lents[0].missing[-1] != lents[1].missing[-1]) {
         stop_at(call, "missing words", 0, lents[0].missing[-1],
                 lents[1].missing[-1]);
+    }
+    if (unlike(lents[0].missing, lents[1].missing, MISSING_BYTES)) {
+        stop(call, "the words before the number differ");
     }
     pair_counts.refusals += answers[0] != OTTO_DONE;
     return answers[0];

@@ -272,7 +272,7 @@ static void find_lasts(uint32_t *lasts, size_t memory_words)
     }
 }
 
-/* The words that are missing are added to a number: none on the likely way. */
+/* How many words are missing is added to *missing; none on the likely way. */
 static int32_t input_of(uint32_t cr, uint32_t accum, const uint16_t *memory,
                         size_t memory_words, const uint32_t *lasts,
                         uint32_t *missing)

@@ -4,10 +4,10 @@
  * The engine owns nothing. The host lends a machine record of 663 words to
  * every call, to a frame also sample memory, an output and a place for a
  * number, and to a read a place for a byte; what a call does is fixed by what
- * is lent and nothing else. There is no global state, no
- * allocation, no file and no lock, so any number of records may be in use,
- * and two threads may call at once if neither lends a buffer that the other
- * one's call may change. Sample memory is only read: threads may share it.
+ * is lent and nothing else. There is no global state, no allocation, no file
+ * and no lock, so any number of records may be in use, and two threads may call
+ * at once if neither lends a buffer that the other one's call may change.
+ * Sample memory is only read: threads may share it.
  *
  * Every pointer must be aligned for its type, must point at as many values as
  * the length after it says, or at one where no length comes after it, and must
@@ -91,13 +91,14 @@ uint32_t otto_set_pot(uint32_t *record, size_t words, uint32_t pot);
  * 20 bits, -524288 to 524287, in channel order, left before right.
  *
  * *missing is always set: to how many words of sample memory the frame asked
- * for and missed, 0 to 64, and to 0 where the frame is refused. Each running
- * active voice asks for two, the word that ACCUM is at, in the voice's bank,
- * and the next, which after the bank's last word is its first; both count, also
- * where ACCUM is at a whole sample and the next is not heard. A word beyond the
- * lent memory is missing, and sounds as 0. So a number above 0 says that a note
- * reads past the set that is loaded; with memory of four banks it is always 0.
- * A host that does not want the number lends a place for it all the same.
+ * for and missed, 0 to 64, and to 0 where the frame is refused. Each voice that
+ * is active and runs as the frame begins asks for two: the word that ACCUM is
+ * at then, in the voice's bank, and the next, which after the bank's last word
+ * is its first. Both count, also where ACCUM is at a whole sample and the next
+ * is not heard. A word beyond the lent memory is missing, and sounds as 0. So a
+ * number above 0 says that a note reads past the set that is loaded; with
+ * memory of four banks it is always 0. A host that does not want the number
+ * lends a place for it all the same.
  *
  * ACTV, register 11 of pages 0 to 31, is the number of the last active voice;
  * a reset makes it 31. At least five voices must be active, stopped or not, so

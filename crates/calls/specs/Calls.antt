@@ -32,7 +32,7 @@ after m (Read a) = readRecord m a
 after m (SetPot p) = potRecord m p
 after m (Frame memory out) = frameRecord m memory out
 
--- the number that it gives beside its answer: a read its byte, a frame how many words were missing; of another call none is asked
+-- the number that it gives beside its answer: a read its byte, a frame how many words were missing, another call 0
 unfoldable pub givenBy : List ℕ → Call → ℕ
 givenBy m Reset = 0
 givenBy m (Write a b) = 0

@@ -84,7 +84,7 @@ fn play(m: &mut [u32], memory: &[u16]) -> u32
     missing
 }
 
-// The turn of voice v. The words that it misses are added to a number.
+// The turn of voice v. How many words it misses is added to `missing`.
 fn turn(
     m: &mut [u32],
     v: usize,

@@ -1,5 +1,5 @@
--- One frame of two machines that match: it puts out the same values, misses as many words, and they match after it. It is the law of frames for every relation of voices,
--- `frame/proofs/Paired`, taken for voices that hold the same registers. Assumes nothing.
+-- One frame of two machines that match: it puts out the same values, misses as many words, and they match after it. It is the law of frames for
+-- every relation of voices, `frame/proofs/Paired`, taken for voices that hold the same registers. Assumes nothing.
 use mathlib.Core.Path.{_≡_, sym, _∙_}
 use mathlib.Core.List.{List}
 use Prim.Native.Nat.{ℕ}

@@ -128,7 +128,7 @@ Alike s (Then ps memory l) (Then qs memory′ k) = SameWrites s ps qs × (memory
 
 -- ---- what holds along them
 
--- a frame puts out the same twelve values on both machines, and says of as many words that they were missing
+-- a frame puts out the same twelve values on both machines, and answers the same number of missing words
 pub record SameFrame (m n : List ℕ) (c d : Call) : Type 0 where
   pub values : outputFrom m c ≡ outputFrom n d
   pub twelve : length (outputFrom m c) ≡ OUTPUT_VALUES

@@ -26,7 +26,7 @@ pub struct Words {
     pub second: MemoryWord,
 }
 
-// The value between the two samples that the voice is at, of 18 bits. The words of them that are missing are added to a number. They are
+// The value between the two samples that the voice is at, of 18 bits. How many of their words are missing is added to `missing`. They are
 // counted before it is asked what they stand for: then the compiler counts nothing on the way of a fetch that has both by one test.
 pub fn interpolate(
     memory: &[u16],

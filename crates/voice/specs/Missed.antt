@@ -11,7 +11,7 @@ use Rattle.voice.specs.Voice.{Voice}
 unfoldable pub missedBy : List ℕ → Voice → ℕ
 missedBy memory v = cond (runs (v .cr)) (missingOf (fetched memory (v .cr) (v .accum))) 0
 
--- the words that it asks for where it runs
+-- both words that it asks for where it runs are in the memory
 pub record BothThere (memory : List ℕ) (v : Voice) : Type 0 where
   pub first : firstAt (v .cr) (v .accum) < length memory
   pub second : secondAt (v .cr) (v .accum) < length memory

@@ -26,8 +26,8 @@ pub struct Addend {
     pub right: i32,
 }
 
-// A turn of the voice whose words are w, at the slow-ramp counter slow, over the lent sample memory and the table of codes. The words of sample
-// memory that it misses are added to a number.
+// A turn of the voice whose words are w, at the slow-ramp counter slow, over the lent sample memory and the table of codes. How many words of
+// that memory it misses is added to `missing`.
 pub fn turn(
     w: &mut [u32],
     slow: u32,
