@@ -176,9 +176,9 @@ static void set_missing(uint32_t words)
 
 /* All that costs most, at once in every voice: two high passes, codes, the last
    word of the memory, whose next is missing, an event with an interrupt while
-   none waits, and four fast ramps in a frame where slow ones rest. The loop mode
-   and the direction are given: they change the cost by little, and which of them
-   costs most depends on the engine. */
+   none waits, and four fast ramps in a frame where slow ones rest. The loop
+   mode and the direction are given: they change the cost by little, and which
+   of them costs most depends on the engine. */
 static void set_worst(uint32_t mode)
 {
     set_voices(0, MOST_ECOUNT);

@@ -1164,7 +1164,7 @@ static void missing_of_all(void)
     }
 }
 
-/* The registers count as the frame begins. */
+/* What counts is the registers as the frame begins. */
 static void missing_as_it_begins(void)
 {
     fresh();

@@ -17,7 +17,7 @@
  * A call on a record answers 0 or the number of its refusal. It asks in the
  * order in which its refusals are listed below, and a refused call changes no
  * word of the record and no value of the output; a refused otto_read sets its
- * byte to 0, and a refused otto_frame its number of missing words.
+ * byte to 0, and a refused otto_frame its number of missing words to 0.
  */
 #ifndef OTTO_H
 #define OTTO_H

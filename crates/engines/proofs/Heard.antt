@@ -2,7 +2,7 @@
 -- and what is heard of them, with its theorem; one of voices and how many words they miss, with its theorem; one note's first frame, and its
 -- second. Assumes nothing.
 --
--- The rows show what becomes of channel sums past the rails. A sum held after each voice would be heard: nine voices would give what
+-- The rows of chords show what becomes of channel sums past the rails. A sum held after each voice would be heard: nine voices would give what
 -- eight do, and high and low voices together would depend on which came first.
 use mathlib.Core.Path.{_≡_, refl}
 use mathlib.Core.List.{List, [], _∷_, _++_, map}
@@ -79,7 +79,7 @@ chords-heard = refl
 
 -- ---- missing words
 
--- The memory has twelve words. A voice that reaches its last one misses the next, which is not heard, since the voice is at a whole sample;
+-- The memory has twelve words; in one row none is lent. A voice that reaches its last one misses the next, which is not heard, since the voice is at a whole sample;
 -- one beyond it misses both; and the last word of the bank is missing, where the next is the bank's first, which is there. A voice whose CR is
 -- 777 or 778 has STP0 or STP1, and misses none.
 abbrev ends : List ℕ

@@ -25,7 +25,7 @@ use Rattle.voice.proofs.Missed.{missed-most, missed-none, missed-both}
 use Rattle.frame.specs.Sum.{sum}
 use Rattle.frame.specs.Missing.{missedIn, AllThere}
 use Rattle.frame.specs.Frame.{turns, frameAnswer, frameMissing}
-use Rattle.frame.proofs.Sum.{sum-ext, sum-most, sum-none, none-summed}
+use Rattle.frame.proofs.Sum.{sum-ext, sum-most, sum-zeros, none-summed}
 use Rattle.frame.proofs.Keeps.{active-le, places-of}
 use Rattle.frame.proofs.Leaves.{turned}
 use Rattle.frame.proofs.Answered.{done-frame}
@@ -63,7 +63,7 @@ missed-in-none memory m e v h t =
 pub missed-in-all : (memory m : List ℕ) → AllThere memory m → missedIn memory m ≡ 0
 unfolding missedIn
 missed-in-all memory m h =
-    sum-none (getD m ACTV 0 + 1) (λ v. missedBy memory (voiceOf (voiceAt m v))) (λ v l. missed-both memory (voiceOf (voiceAt m v)) (h v (omega arith)))
+    sum-zeros (getD m ACTV 0 + 1) (λ v. missedBy memory (voiceOf (voiceAt m v))) (λ v l. missed-both memory (voiceOf (voiceAt m v)) (h v (omega arith)))
 
 -- ---- the call
 

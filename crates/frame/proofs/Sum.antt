@@ -1,6 +1,6 @@
 -- Sums over the numbers below k, and that a renumbering of these leaves them as they were. It is asked to lead to numbers below k, and to be
 -- one-to-one; that it is onto is counted here.
--- In order: sums (`sum-ext`, `sum-most`, `sum-none`, `none-summed`); a number that is hit or missed; how often a map hits a number; the two
+-- In order: sums (`sum-ext`, `sum-most`, `sum-zeros`, `none-summed`); a number that is hit or missed; how often a map hits a number; the two
 -- laws (`sum-renumbered`, `maps-outside`). That sums of channels may be taken in any order is `channel/proofs/Laws`. Assumes nothing.
 use mathlib.Core.Path.{_≡_, refl, sym, ap, _∙_}
 use mathlib.Core.Bool.{cond}
@@ -31,10 +31,10 @@ sum-most zero c f h = omega arith
 sum-most (suc k) c f h = omega (arith, sum-most k c f (λ v l. h v (omega arith)), h k (omega arith))
 
 -- it is 0 where each number is, and nowhere else
-pub sum-none : (k : ℕ) (f : ℕ → ℕ) → ((v : ℕ) → v < k → f v ≡ 0) → sum k f ≡ 0
+pub sum-zeros : (k : ℕ) (f : ℕ → ℕ) → ((v : ℕ) → v < k → f v ≡ 0) → sum k f ≡ 0
 unfolding sum
-sum-none zero f h = refl
-sum-none (suc k) f h = omega (arith, sum-none k f (λ v l. h v (omega arith)), h k (omega arith))
+sum-zeros zero f h = refl
+sum-zeros (suc k) f h = omega (arith, sum-zeros k f (λ v l. h v (omega arith)), h k (omega arith))
 
 pub none-summed : (k : ℕ) (f : ℕ → ℕ) → sum k f ≡ 0 → (v : ℕ) → v < k → f v ≡ 0
 unfolding sum

@@ -94,7 +94,7 @@ frameRecord m memory out = cond (isDone (frameAnswer m memory out)) (closed (pla
 unfoldable pub frameOutput : List ℕ → List ℕ → List ℤ → List ℤ
 frameOutput m memory out = cond (isDone (frameAnswer m memory out)) (heard (played memory m)) out
 
--- how many words were missing; a refused frame answers 0
+-- how many words were missing; a refused frame gives 0
 unfoldable pub frameMissing : List ℕ → List ℕ → List ℤ → ℕ
 frameMissing m memory out = cond (isDone (frameAnswer m memory out)) (missedIn memory m) 0
 

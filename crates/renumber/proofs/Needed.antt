@@ -1,5 +1,5 @@
--- What the theorem asks is needed: without it the same note sounds otherwise. Each case is computed on the machines of the example, and
--- compares the first of the twelve values.
+-- What the theorem asks is needed: without it the same note sounds otherwise. Each case is computed on the machines of the example, and, but for
+-- the word that is missing and the flags, compares the first of the twelve values.
 -- In order: how loud each case is; that the note sounds, and that it can miss a word; then, each as what may not differ, the sample memory, a
 -- write that is no voice's, an active voice that becomes an inactive one, and a channel sum; last the flags, which may come to differ. Assumes
 -- nothing.

@@ -78,10 +78,10 @@ below-last n b i h e f g k = (omega arith, omega arith)
 
 -- ---- missing words
 
--- a word of the memory, and one beyond it
 same-word : {a b : ℕ} {p q : Bool} → a ≡ b → p ≡ q → _≡_ {A = MemoryWord} (record { bits = a; there = p }) (record { bits = b; there = q })
 same-word e f = λ i. record { bits = e i; there = f i }
 
+-- a word of the memory, and one beyond it
 module _ (memory : List ℕ) (i : ℕ) where
   pub word-there : i < length memory → record { bits = getD memory i 0; there = true } ≡ wordAt memory i
   word-there h = same-word refl (sym (lt-ltb i _ (omega arith)))
