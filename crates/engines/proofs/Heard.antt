@@ -81,7 +81,7 @@ chords-heard = refl
 
 -- The memory has twelve words; in one row none is lent. A voice that reaches its last one misses the next, which is not heard, since the voice is at a whole sample;
 -- one beyond it misses both; and the last word of the bank is missing, where the next is the bank's first, which is there. A voice whose CR is
--- 777 or 778 has STP0 or STP1, and misses none.
+-- 777 or 778 has STP0 or STP1, and misses none; nor does voice 5 where ACTV is 4.
 abbrev ends : List ℕ
 ends = note 22528 131068
 
@@ -100,8 +100,8 @@ missed =
     ∷ (missedIn [] (playing 0 (wraps ∷ [])), 2)
     ∷ (missedIn memory (playing 0 (set beyond CR 777 ∷ set beyond CR 778 ∷ [])), 0)
     ∷ (missedIn memory (playing 0 (high ∷ ends ∷ beyond ∷ [])), 3)
-    ∷ (missedIn memory (playing 0 (replicate 6 beyond)), 12)
-    ∷ (missedIn memory (set (playing 0 (replicate 6 beyond)) ACTV 4), 10)
+    ∷ (missedIn memory (playing 4 (beyond ∷ beyond ∷ [])), 4)
+    ∷ (missedIn memory (set (playing 4 (beyond ∷ beyond ∷ [])) ACTV 4), 2)
     ∷ []
 
 pub missed-counted : map (λ (row : ℕ × ℕ). row .0) missed ≡ map (λ (row : ℕ × ℕ). row .1) missed
