@@ -7,7 +7,7 @@ use types.Run.{OneOf, miss}
 use denote.Enum.Declared.{tagOf}
 use Rattle.answer.specs.Answer.{isDone, firstRefusal}
 use Rattle.answer.specs.declared.Answer.{Answer}
-use Rattle.answer.specs.declared.Answer.the-variants.{Done, RecordLength, RecordInvalid, Address, Pot, MemoryLength, OutputLength, TooFewVoices}
+use Rattle.answer.specs.declared.Answer.the-variants.{Done, RecordLength, RecordInvalid, Address, Pot, MemoryLength, OutputLength, TooFewVoices, FileBroken, ChunkCount, SampleFormat, LoopInvalid, NoPlace}
 use Rattle.answer.proofs.Answer.{the-type}
 
 pub is-done : (a : Answer) → isDone a ≡ true → a ≡ Done
@@ -19,10 +19,15 @@ is-done Pot h = absurd (false≢true h)
 is-done MemoryLength h = absurd (false≢true h)
 is-done OutputLength h = absurd (false≢true h)
 is-done TooFewVoices h = absurd (false≢true h)
+is-done FileBroken h = absurd (false≢true h)
+is-done ChunkCount h = absurd (false≢true h)
+is-done SampleFormat h = absurd (false≢true h)
+is-done LoopInvalid h = absurd (false≢true h)
+is-done NoPlace h = absurd (false≢true h)
 
 -- the `else` of a `let Answer::Done = a else` knows that the answer's case is one of the others
-pub is-refusal : (a : Answer) → OneOf (1 ∷ 2 ∷ 3 ∷ 4 ∷ 5 ∷ 6 ∷ 7 ∷ []) (tagOf the-type a) → isDone a ≡ false
-is-refusal Done h = absurd (miss (1 ∷ 2 ∷ 3 ∷ 4 ∷ 5 ∷ 6 ∷ 7 ∷ []) 0 tt h)
+pub is-refusal : (a : Answer) → OneOf (1 ∷ 2 ∷ 3 ∷ 4 ∷ 5 ∷ 6 ∷ 7 ∷ 8 ∷ 9 ∷ 10 ∷ 11 ∷ 12 ∷ []) (tagOf the-type a) → isDone a ≡ false
+is-refusal Done h = absurd (miss (1 ∷ 2 ∷ 3 ∷ 4 ∷ 5 ∷ 6 ∷ 7 ∷ 8 ∷ 9 ∷ 10 ∷ 11 ∷ 12 ∷ []) 0 tt h)
 is-refusal RecordLength h = refl
 is-refusal RecordInvalid h = refl
 is-refusal Address h = refl
@@ -30,6 +35,11 @@ is-refusal Pot h = refl
 is-refusal MemoryLength h = refl
 is-refusal OutputLength h = refl
 is-refusal TooFewVoices h = refl
+is-refusal FileBroken h = refl
+is-refusal ChunkCount h = refl
+is-refusal SampleFormat h = refl
+is-refusal LoopInvalid h = refl
+is-refusal NoPlace h = refl
 
 -- ---- a call's tests
 

@@ -18,6 +18,16 @@ pub enum Answer {
     OutputLength,
     // Fewer than five active voices.
     TooFewVoices,
+    // A file that is too long or no RIFF/WAVE, or in which something runs past what it is in.
+    FileBroken,
+    // No format chunk or no data chunk, or two of one.
+    ChunkCount,
+    // Samples that are not mono 16-bit PCM, or an odd number of bytes of them.
+    SampleFormat,
+    // A loop outside the data, one that ends before its start, or one of another type.
+    LoopInvalid,
+    // Samples that would cross the end of the memory or of a bank, or an END that its register does not hold.
+    NoPlace,
 }
 
 // The answer's number, for hosts.
@@ -33,5 +43,10 @@ pub fn number(a: Answer) -> u32
         Answer::MemoryLength => 5,
         Answer::OutputLength => 6,
         Answer::TooFewVoices => 7,
+        Answer::FileBroken => 20,
+        Answer::ChunkCount => 21,
+        Answer::SampleFormat => 22,
+        Answer::LoopInvalid => 23,
+        Answer::NoPlace => 24,
     }
 }

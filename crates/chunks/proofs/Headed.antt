@@ -1,0 +1,49 @@
+-- What `chunks::open` answers at each of its tests, in their order: a test that fails leaves the file without a header, and where all hold its
+-- chunks go up to the end of its RIFF length. Assumes nothing.
+use mathlib.Core.Path.{_≡_}
+use mathlib.Core.Bool.{false, and-false}
+use mathlib.Core.List.{List}
+use Prim.Native.Nat.{ℕ, _+_, _≤_, _<_}
+use native.Mathlib.Omega.{arith}
+use borrow.Author.Tests.{le-leb, lt-leb, eq-eqb, ne-eqb}
+use lib.ListN.{length}
+use Rattle.numbers.proofs.Tests.{cases}
+use Rattle.layout.specs.Bytes.{little4At}
+use Rattle.chunks.specs.Chunks.{RIFF, WAVE, MOST_FILE_BYTES, FIRST_CHUNK, riffLength, riffEnd, isHeaded}
+use Rattle.chunks.specs.Walk.{openedOf}
+use Rattle.chunks.specs.declared.Opened.the-variants.{Broken, Upto}
+
+module _ (file : List ℕ) where
+  unheaded : isHeaded file ≡ false → Broken ≡ openedOf file
+  unfolding openedOf
+  unheaded e = rw e
+
+  pub too-long : MOST_FILE_BYTES < length file → Broken ≡ openedOf file
+  unfolding isHeaded
+  too-long h = unheaded (rw (lt-leb (length file) MOST_FILE_BYTES h))
+
+  -- where the length leaves no room for "WAVE", or the file is shorter than it says; so where it is shorter than a header
+  pub not-within : riffLength file < 4 → Broken ≡ openedOf file
+  unfolding isHeaded
+  not-within h = unheaded (rw (lt-leb 4 (riffLength file) h, and-false, and-false, and-false))
+
+  pub past-file : length file < riffEnd file → Broken ≡ openedOf file
+  unfolding isHeaded
+  past-file h = unheaded (rw (lt-leb (riffEnd file) (length file) h, and-false, and-false, and-false, and-false))
+
+  pub too-short : length file < FIRST_CHUNK → Broken ≡ openedOf file
+  too-short h = cases (riffLength file) 4 (Broken ≡ openedOf file) not-within (λ k. past-file (omega arith))
+
+  pub not-riff : (little4At file 0 ≡ RIFF → ⊥) → Broken ≡ openedOf file
+  unfolding isHeaded
+  not-riff h = unheaded (rw (ne-eqb (little4At file 0) RIFF h, and-false))
+
+  pub not-wave : (little4At file 8 ≡ WAVE → ⊥) → Broken ≡ openedOf file
+  unfolding isHeaded
+  not-wave h = unheaded (rw (ne-eqb (little4At file 8) WAVE h, and-false, and-false))
+
+  pub headed : length file ≤ MOST_FILE_BYTES → little4At file 0 ≡ RIFF → little4At file 8 ≡ WAVE → (n : ℕ) → n ≡ riffLength file → 4 ≤ n → 8 + n ≤ length file
+      → Upto (8 + n) ≡ openedOf file
+  unfolding isHeaded openedOf
+  headed a r w n e h k =
+      rw (le-leb (length file) MOST_FILE_BYTES a, eq-eqb (little4At file 0) RIFF r, eq-eqb (little4At file 8) WAVE w, le-leb 4 (riffLength file) (rw e at h), le-leb (riffEnd file) (length file) (rw e at k), e)

@@ -1,0 +1,4 @@
+pub mod Headed
+pub mod Reached
+pub mod Row
+pub mod Named

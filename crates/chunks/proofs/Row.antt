@@ -1,0 +1,96 @@
+-- A file is read as some chunks exactly where they stand in a row up to the end; so how many chunks are allowed for does not matter.
+-- In order: where a whole chunk ends; one step of the reading; from the reading to the row, and back; what chunks in a row are: within the end, and
+-- few. Assumes nothing.
+use mathlib.Core.Path.{_≡_, refl, sym, ap, _∙_}
+use mathlib.Core.Bool.{Bool, true, false, cond, _&&_, false≢true}
+use mathlib.Core.List.{List, [], _∷_}
+use Prim.Native.Nat.{ℕ, zero, suc, _+_, _-_, _*_, _≤_, _<_}
+use native.Mathlib.Numerals.{sub-one}
+use native.Mathlib.Omega.{arith}
+use borrow.Author.Tests.{lt-ltb, le-ltb, leb-true}
+use lib.Dec.{leb, ltb}
+use lib.ListN.{length}
+use Rattle.numbers.proofs.Tests.{split, cases}
+use Rattle.chunks.specs.Chunks.{Reading, broken, chunks, before, chunksFrom, chunkAt, next, isWhole, HEADER_BYTES}
+use Rattle.chunks.specs.Row.{InRow}
+use Rattle.chunks.specs.declared.Chunk.{Chunk}
+
+-- ---- a whole chunk
+
+and-both : (a b : Bool) → (a && b) ≡ true → (a ≡ true) × (b ≡ true)
+and-both true b h = (refl, h)
+and-both false b h = absurd (false≢true h)
+
+-- it ends before the end, and the next one begins eight bytes on or more
+module _ (file : List ℕ) (end i : ℕ) where
+  pub whole-before : isWhole file end i ≡ true → next (chunkAt file i) ≤ end
+  unfolding isWhole
+  whole-before h = leb-true (next (chunkAt file i)) end (and-both (leb (i + HEADER_BYTES) end) (leb (next (chunkAt file i)) end) h .1)
+
+  pub goes-on : i + HEADER_BYTES ≤ next (chunkAt file i)
+  unfolding chunkAt
+  goes-on = omega arith
+
+-- ---- one step
+
+module _ (file : List ℕ) (end : ℕ) where
+  pub no-chunk : (n i : ℕ) → end ≤ i → chunksFrom n file end i ≡ chunks []
+  unfolding chunksFrom
+  no-chunk zero i h = refl
+  no-chunk (suc n) i h = rw (le-ltb i end h)
+
+  pub one-chunk : (n i : ℕ) → i < end → end ≤ i + n
+      → chunksFrom n file end i ≡ cond (isWhole file end i) (before (chunkAt file i) (chunksFrom (n - 1) file end (next (chunkAt file i)))) broken
+  unfolding chunksFrom
+  one-chunk zero i h k = absurd (omega arith)
+  one-chunk (suc n) i h k = rw (lt-ltb i end h, sub-one)
+
+  -- ---- the reading and the row
+
+  before-is : (c : Chunk) (r : Reading) (cs : List Chunk) → before c r ≡ chunks cs → (ds : List Chunk) × ((r ≡ chunks ds) × (cs ≡ c ∷ ds))
+  unfolding before
+  before-is c broken cs e = absurd (let z : _≡_ {A = ℕ} 0 1 = cc in omega arith)
+  before-is c (chunks ds) cs e = (ds, (refl, cc))
+
+  -- at a place, where the chunks that are read after the one there are in a row
+  row-here : (i : ℕ) (rest : Reading) (cs : List Chunk) → i ≤ end → ((ds : List Chunk) → isWhole file end i ≡ true → i < end → rest ≡ chunks ds → InRow file end (next (chunkAt file i)) ds)
+      → cond (ltb i end) (cond (isWhole file end i) (before (chunkAt file i) rest) broken) (chunks []) ≡ chunks cs → InRow file end i cs
+  row-here i rest cs b f e =
+      cases i end (InRow file end i cs)
+      (λ l. split (InRow file end i cs) (isWhole file end i)
+      (λ w.
+      let d = before-is (chunkAt file i) rest cs (rw (lt-ltb i end l, w) at e) in
+      rw (d .1 .1) (l, refl, w, f (d .0) w l (d .1 .0)))
+      (λ w. absurd (not-chunks cs (rw (lt-ltb i end l, w) at e))))
+      (λ l. stop l cs (rw (le-ltb i end l) at e))
+    where
+      not-chunks : (cs : List Chunk) → broken ≡ chunks cs → ⊥
+      not-chunks cs e = let z : _≡_ {A = ℕ} 0 1 = cc in omega arith
+
+      stop : end ≤ i → (cs : List Chunk) → chunks [] ≡ chunks cs → InRow file end i cs
+      stop l [] e = omega arith
+      stop l (c ∷ cs) e = absurd (let z : _≡_ {A = ℕ} 0 1 = cc in omega arith)
+
+  pub read-in-row : (n i : ℕ) (cs : List Chunk) → i ≤ end → end ≤ i + n → chunksFrom n file end i ≡ chunks cs → InRow file end i cs
+  unfolding chunksFrom
+  read-in-row zero i [] b h e = omega arith
+  read-in-row zero i (c ∷ cs) b h e = absurd (let z : _≡_ {A = ℕ} 0 1 = cc in omega arith)
+  read-in-row (suc n) i cs b h e =
+      let g = goes-on file end i in
+      row-here i (chunksFrom n file end (next (chunkAt file i))) cs b
+      (λ ds w l q. read-in-row n (next (chunkAt file i)) ds (whole-before file end i w) (omega arith) q) e
+
+  pub row-read : (n i : ℕ) (cs : List Chunk) → end ≤ i + n → InRow file end i cs → chunksFrom n file end i ≡ chunks cs
+  unfolding chunksFrom before
+  row-read n i [] h r = no-chunk n i (omega arith)
+  row-read n i (c ∷ cs) h r =
+      let g = goes-on file end i in
+      one-chunk n i (r .0) h ∙ rw (r .2, ← (r .1), row-read (n - 1) (next c) cs (rw (r .1) (omega arith)) (r .3))
+
+  -- ---- chunks in a row
+
+  pub row-few : (i : ℕ) (cs : List Chunk) → InRow file end i cs → i + HEADER_BYTES * length cs ≤ end
+  row-few i [] r = omega arith
+  row-few i (c ∷ cs) r =
+      let g : i + HEADER_BYTES ≤ next c = rw (r .1) (goes-on file end i) in
+      omega (arith, row-few (next c) cs (r .3))

@@ -1,0 +1,29 @@
+-- Numbers written as bytes, in either order.
+-- In order: the number that some bytes are; that of two bytes and that of four at a place of a list; a list by twos. Assumes nothing.
+use Prim.Native.Nat.{ℕ, _+_, _*_, _^_}
+use mathlib.Core.List.{List, [], _∷_}
+use lib.ListN.{length}
+use Rattle.layout.specs.Parts.{part}
+
+-- the lowest byte first
+unfoldable pub little : List ℕ → ℕ
+little [] = 0
+little (b ∷ bs) = b + 256 * little bs
+
+-- the highest byte first
+unfoldable pub big : List ℕ → ℕ
+big [] = 0
+big (b ∷ bs) = b * 256 ^ length bs + big bs
+
+-- at index i; what is missing where the list ends before counts as 0
+abbrev pub little2At : List ℕ → ℕ → ℕ
+little2At xs i = little (part xs i 2)
+
+abbrev pub little4At : List ℕ → ℕ → ℕ
+little4At xs i = little (part xs i 4)
+
+-- the numbers of a list's bytes by twos, in the order that is handed over: `twos little`, `twos big`. A last odd byte is left out.
+unfoldable pub twos : (List ℕ → ℕ) → List ℕ → List ℕ
+twos order [] = []
+twos order (a ∷ []) = []
+twos order (a ∷ b ∷ bytes) = order (a ∷ b ∷ []) ∷ twos order bytes
