@@ -2,7 +2,7 @@
 -- In order: where a whole chunk ends; one step of the reading; from the reading to the row, and back; what chunks in a row are: within the end, and
 -- few. Assumes nothing.
 use mathlib.Core.Path.{_≡_, refl, sym, ap, _∙_}
-use mathlib.Core.Bool.{Bool, true, false, cond, _&&_, false≢true}
+use mathlib.Core.Bool.{Bool, true, false, cond, and-eq-true-iff}
 use mathlib.Core.List.{List, [], _∷_}
 use Prim.Native.Nat.{ℕ, zero, suc, _+_, _-_, _*_, _≤_, _<_}
 use native.Mathlib.Numerals.{sub-one}
@@ -17,15 +17,11 @@ use Rattle.chunks.specs.declared.Chunk.{Chunk}
 
 -- ---- a whole chunk
 
-and-both : (a b : Bool) → (a && b) ≡ true → (a ≡ true) × (b ≡ true)
-and-both true b h = (refl, h)
-and-both false b h = absurd (false≢true h)
-
 -- it ends before the end, and the next one begins eight bytes on or more
 module _ (file : List ℕ) (end i : ℕ) where
   pub whole-before : isWhole file end i ≡ true → next (chunkAt file i) ≤ end
   unfolding isWhole
-  whole-before h = leb-true (next (chunkAt file i)) end (and-both (leb (i + HEADER_BYTES) end) (leb (next (chunkAt file i)) end) h .1)
+  whole-before h = leb-true (next (chunkAt file i)) end (and-eq-true-iff (leb (i + HEADER_BYTES) end) (leb (next (chunkAt file i)) end) .0 h .1)
 
   pub goes-on : i + HEADER_BYTES ≤ next (chunkAt file i)
   unfolding chunkAt

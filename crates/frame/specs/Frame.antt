@@ -17,7 +17,7 @@ use Rattle.channel.specs.Channel.{mixed, putOut}
 use Rattle.machine.specs.Words.{IRQV, ACTV, SLOW, SUMS, OUTPUT_VALUES, NO_INTERRUPT}
 use Rattle.machine.specs.Voices.{voiceAt, putVoice}
 use Rattle.machine.specs.Check.{wrongLength, notValid}
-use Rattle.sample.specs.Sample.{MOST_MEMORY_WORDS}
+use Rattle.sample.specs.Sample.{tooManyWords}
 use Rattle.voice.specs.Turn.{turnOf}
 use Rattle.voice.specs.Voice.{voiceOf, wordsOf}
 use Rattle.frame.specs.Missing.{missedIn}
@@ -84,7 +84,7 @@ frameAnswer m memory out =
     ((wrongLength m, RecordLength)
     ∷ (notValid m, RecordInvalid)
     ∷ (tooFew m, TooFewVoices)
-    ∷ (ltb MOST_MEMORY_WORDS (length memory), MemoryLength)
+    ∷ (tooManyWords (length memory), MemoryLength)
     ∷ (not (eqb (length out) OUTPUT_VALUES), OutputLength)
     ∷ [])
 

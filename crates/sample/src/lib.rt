@@ -14,6 +14,9 @@ pub const BANK_WORDS: u32 = 2097152;
 
 pub const MOST_MEMORY_WORDS: usize = 4 * 2097152;
 
+// What one sample is in START, END and ACCUM.
+pub const WHOLE_SAMPLE: u32 = 2048;
+
 // A word that was asked for, 0 where it was not there, and whether it was.
 pub struct MemoryWord {
     pub bits: u16,
@@ -48,7 +51,7 @@ pub fn interpolate(
     tally(w.second.there, missing);
     let s1 = sample_of(table, cr, w.first.bits);
     let s2 = sample_of(table, cr, w.second.bits);
-    blend(accum % 2048 / 4, s1, s2)
+    blend(accum % WHOLE_SAMPLE / 4, s1, s2)
 }
 
 // One more where a word was missing.
@@ -68,7 +71,7 @@ pub fn fetch(memory: &[u16], lasts: &[usize; 4], cr: u32, accum: u32) -> Words
     ensures { λ r. ⌜ r ≡ fetched (now (memory .entry)) cr accum ⌝ }
 {
     let bank = control::bank(cr);
-    let i = accum / 2048;
+    let i = accum / WHOLE_SAMPLE;
     let b = bank as usize;
     words_at(
         memory,

@@ -1,0 +1,142 @@
+-- What `wave::parse` answers.
+-- In order: what the pass over the chunks came to; a file that can be read as chunks: they stand in a row, in the file; the answer at each test; what
+-- an answer tells of the file. Assumes nothing.
+use mathlib.Core.Path.{_≡_, refl, sym, ap, _∙_}
+use mathlib.Core.Bool.{Bool, true, false, cond, _||_, or-true, false≢true}
+use mathlib.Core.List.{List, [], _∷_}
+use Prim.Native.Nat.{ℕ, _+_, _≤_}
+use native.Mathlib.Omega.{arith}
+use borrow.Author.Tests.{ltb-false, eqb-true}
+use lib.Dec.{ltb, eqb}
+use lib.ListN.{length}
+use Rattle.chunks.specs.Chunks.{Reading, broken, chunks, chunksFrom, riffEnd, isHeaded, reading, isUnread, listed, chunksOf, named, FORMAT, SAMPLER, FIRST_CHUNK, MOST_FILE_BYTES}
+use Rattle.chunks.specs.Row.{InRow}
+use Rattle.chunks.specs.declared.Chunk.{Chunk}
+use Rattle.chunks.proofs.Headed.{headed-within}
+use Rattle.chunks.proofs.Row.{read-in-row}
+use Rattle.chunks.proofs.Named.{Each, Before, row-before, each-named}
+use Rattle.wave.specs.Rules.{anyShort, anyCut}
+use Rattle.wave.specs.Import.{isBroken}
+use Rattle.wave.specs.Steps.{foundOf, anyCutOf, collectedOf, parsedOf, InFile, OfKept}
+use Rattle.wave.specs.declared.Found.{Found}
+use Rattle.wave.specs.declared.Parsed.{Parsed}
+use Rattle.wave.specs.declared.Parsed.the-variants.{Broken, Chunks}
+use Rattle.wave.proofs.Keeping.{kept-cut, kept-each}
+
+-- ---- a test that is one of several
+
+pub neither : (a b : Bool) → (a || b) ≡ false → (a ≡ false) × (b ≡ false)
+neither true b h = absurd (false≢true (sym h))
+neither false b h = (refl, h)
+
+-- ---- what the pass came to
+
+by-short : (t : Bool) (f : Found) → (r : Parsed) → r ≡ Broken → r ≡ cond t Broken (Chunks f) → t ≡ true
+by-short true f r e g = refl
+by-short false f r e g = absurd (let z : _≡_ {A = ℕ} 0 1 = cc in omega arith)
+
+by-found : (t : Bool) (f g : Found) → (r : Parsed) → r ≡ Chunks g → r ≡ cond t Broken (Chunks f) → (t ≡ false) × (g ≡ f)
+by-found true f g r e h = absurd (let z : _≡_ {A = ℕ} 0 1 = cc in omega arith)
+by-found false f g r e h = (refl, cc)
+
+came-broken : (x : Reading) (r : Parsed) → r ≡ Broken → r ≡ collectedOf x → (b : Bool) → (isUnread x || (anyShort (listed x) || b)) ≡ true
+unfolding collectedOf isUnread listed
+came-broken broken r e g b = refl
+came-broken (chunks cs) r e g b = rw (by-short (anyShort cs) (foundOf cs) r e g)
+
+came-found : (x : Reading) (r : Parsed) (f : Found) → r ≡ Chunks f → r ≡ collectedOf x → (isUnread x ≡ false) × ((anyShort (listed x) ≡ false) × (f ≡ foundOf (listed x)))
+unfolding collectedOf isUnread listed
+came-found broken r f e g = absurd (let z : _≡_ {A = ℕ} 0 1 = cc in omega arith)
+came-found (chunks cs) r f e g = let b = by-found (anyShort cs) (foundOf cs) f r e g in (refl, (b .0, b .1))
+
+-- ---- a file that can be read as chunks
+
+read-by : (t : Bool) (r : Reading) → isUnread (cond t r broken) ≡ false → (t ≡ true) × (isUnread r ≡ false)
+unfolding isUnread
+read-by true r h = (refl, h)
+read-by false r h = absurd (false≢true (sym h))
+
+is-read : (r : Reading) → isUnread r ≡ false → r ≡ chunks (listed r)
+unfolding isUnread listed
+is-read broken h = absurd (false≢true (sym h))
+is-read (chunks cs) h = refl
+
+-- its chunks stand in a row up to the end of its RIFF length, which lies in the file
+pub record InFileRow (file : List ℕ) : Type 0 where
+  pub row : InRow file (riffEnd file) FIRST_CHUNK (chunksOf file)
+  pub within : riffEnd file ≤ length file
+  pub few : length file ≤ MOST_FILE_BYTES
+
+pub read-row : (file : List ℕ) → isUnread (reading file) ≡ false → InFileRow file
+unfolding reading
+read-row file h =
+    let t = read-by (isHeaded file) (chunksFrom (riffEnd file) file (riffEnd file) FIRST_CHUNK) h in
+    let w = headed-within file (t .0) in
+    let e = is-read (chunksFrom (riffEnd file) file (riffEnd file) FIRST_CHUNK) (t .1) in
+    record {
+      row = rw (t .0) (read-in-row file (riffEnd file) (riffEnd file) FIRST_CHUNK (listed (chunksFrom (riffEnd file) file (riffEnd file) FIRST_CHUNK)) (w .0) (omega arith) e);
+      within = w .1;
+      few = w .2;
+    }
+
+within-file : (file : List ℕ) (end : ℕ) → end ≤ length file → (cs : List Chunk) → Each (Before end) cs → Each (InFile file) cs
+within-file file end h [] e = tt
+within-file file end h (c ∷ cs) e = (omega arith, within-file file end h cs (e .1))
+
+-- so each lies in the file
+pub each-in-file : (file : List ℕ) → InFileRow file → Each (InFile file) (chunksOf file)
+each-in-file file r = within-file file (riffEnd file) (r .within) (chunksOf file) (row-before file (riffEnd file) FIRST_CHUNK (chunksOf file) (r .row))
+
+-- ---- the answers
+
+module _ (file : List ℕ) where
+  is-broken : isBroken file ≡ true → Broken ≡ parsedOf file
+  unfolding parsedOf
+  is-broken e = rw e
+
+  pub no-header : isHeaded file ≡ false → Broken ≡ parsedOf file
+  unfolding isBroken reading isUnread
+  no-header h = is-broken (rw h)
+
+  module _ (headed : isHeaded file ≡ true) (end : ℕ) (upto : end ≡ riffEnd file) (r : Parsed) (pass : r ≡ collectedOf (chunksFrom end file end FIRST_CHUNK)) where
+    whole-pass : r ≡ collectedOf (reading file)
+    unfolding reading
+    whole-pass = pass ∙ rw (headed, upto)
+
+    pub no-chunks : r ≡ Broken → Broken ≡ parsedOf file
+    unfolding isBroken
+    no-chunks e = is-broken (came-broken (reading file) r e whole-pass (anyCut file (named SAMPLER (chunksOf file))))
+
+    module _ (f : Found) (found : r ≡ Chunks f) where
+      pub found-is : f ≡ foundOf (chunksOf file)
+      found-is = came-found (reading file) r f found whole-pass .1 .1
+
+      pub sampler-in : OfKept (InFile file) (f .sampler)
+      sampler-in =
+          let w = came-found (reading file) r f found whole-pass in
+          rw found-is (kept-each (InFile file) (named SAMPLER (chunksOf file)) (each-named (InFile file) SAMPLER (chunksOf file) (each-in-file file (read-row file (w .0)))))
+
+      pub sampler-cut : anyCutOf file (f .sampler) ≡ true → Broken ≡ parsedOf file
+      unfolding isBroken
+      sampler-cut t =
+          let w = came-found (reading file) r f found whole-pass in
+          let c : anyCut file (named SAMPLER (chunksOf file)) ≡ true = sym (kept-cut file (named SAMPLER (chunksOf file))) ∙ rw found-is at t in
+          is-broken (rw (w .0, w .1 .0, c))
+
+      pub all-there : anyCutOf file (f .sampler) ≡ false → Chunks f ≡ parsedOf file
+      unfolding isBroken parsedOf
+      all-there t =
+          let w = came-found (reading file) r f found whole-pass in
+          let c : anyCut file (named SAMPLER (chunksOf file)) ≡ false = sym (kept-cut file (named SAMPLER (chunksOf file))) ∙ rw found-is at t in
+          rw (w .0, w .1 .0, c, found-is)
+
+-- ---- what an answer tells
+
+module _ (file : List ℕ) (r : Parsed) (parsed : r ≡ parsedOf file) where
+  pub was-broken : r ≡ Broken → isBroken file ≡ true
+  unfolding parsedOf
+  was-broken e = by-short (isBroken file) (foundOf (chunksOf file)) r e parsed
+
+  pub was-found : (f : Found) → r ≡ Chunks f → (isBroken file ≡ false) × (f ≡ foundOf (chunksOf file))
+  unfolding parsedOf
+  was-found f e = by-found (isBroken file) (foundOf (chunksOf file)) f r e parsed

@@ -1,0 +1,3 @@
+pub mod Rules
+pub mod Import
+pub mod Steps
