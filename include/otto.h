@@ -34,6 +34,7 @@ extern "C" {
 #define OTTO_RECORD_WORDS      663u
 #define OTTO_OUTPUT_VALUES     12u      /* channels 0 to 5, left then right */
 #define OTTO_MOST_MEMORY_WORDS 8388608u /* four banks of 2,097,152 words */
+#define OTTO_MOST_FILE_BYTES   65536u   /* of a WAVE file */
 
 /* ---- answers ------------------------------------------------------------- */
 
@@ -45,6 +46,14 @@ extern "C" {
 #define OTTO_MEMORY_LENGTH  5u /* sample memory is longer than four banks */
 #define OTTO_OUTPUT_LENGTH  6u /* the output is not 12 values */
 #define OTTO_TOO_FEW_VOICES 7u /* ACTV is below 4: fewer than five active */
+#define OTTO_FILE_BROKEN   20u /* too long, no RIFF/WAVE, or a part of it runs
+                                  past the file or past its chunk */
+#define OTTO_CHUNK_COUNT   21u /* no format or data chunk, or two of one */
+#define OTTO_SAMPLE_FORMAT 22u /* not mono 16-bit PCM, or an odd data length */
+#define OTTO_LOOP_INVALID  23u /* the loop is outside the data, ends before its
+                                  start, or is of another type than 0, 1, 2 */
+#define OTTO_NO_PLACE      24u /* the samples would cross the end of memory or
+                                  of a bank, or END would not fit its register */
 
 /* ---- the machine --------------------------------------------------------- */
 
@@ -119,6 +128,17 @@ uint8_t otto_compress(int16_t sample);
 
 /* The value of a code. Compressed sample memory has codes in its high bytes. */
 int16_t otto_expand(uint8_t code);
+
+/* ---- WAVE files ----------------------------------------------------------- */
+
+/* The loop bits of CR, as otto_import gives them. */
+#define OTTO_CR_LPE 0x08u
+#define OTTO_CR_BLE 0x10u
+#define OTTO_CR_DIR 0x40u
+
+uint32_t otto_import(const uint8_t *file, size_t file_bytes, uint16_t *memory,
+                     size_t memory_words, size_t word, uint32_t *start,
+                     uint32_t *end, uint32_t *loop, uint32_t *samples);
 
 #ifdef __cplusplus
 }

@@ -8,8 +8,10 @@ use Rattle.answer.specs.declared.Answer.{Answer}
 use Rattle.machine.specs.Reset.{Resets}
 use Rattle.registers.specs.Access.{Writes, Reads, SetsPot}
 use Rattle.frame.specs.Frame.{Frames}
+use Rattle.wave.specs.Import.{Imports}
+use Rattle.wave.specs.declared.Imported.{Imported}
 use Rattle.calls.specs.Calls.{Reset, Write, SetPot, answerTo, after, givenBy, outputFrom}
-use Rattle.otto.specs.Promises.{Calling, Reading, Framing}
+use Rattle.otto.specs.Promises.{Calling, Reading, Framing, Importing}
 
 module _ {m later : List ℕ} {a : Answer} {n : ℕ} (number : n ≡ answerNumber a) where
   pub reset-number : Resets m a later → Calling m Reset n later
@@ -36,3 +38,14 @@ module _ {m later : List ℕ} {a : Answer} {n : ℕ} (number : n ≡ answerNumbe
     misses = e ∙ p .misses;
     sounds = p .sounds;
   }
+
+pub import-number : (file memory : List ℕ) (word : ℕ) {r : Imported} {n start end bits samples : ℕ} {later : List ℕ} → n ≡ answerNumber (r .answer)
+    → start ≡ r .start → end ≡ r .end → bits ≡ r .bits → samples ≡ r .samples → Imports file memory word r later → Importing file memory word n start end bits samples later
+import-number file memory word a s e b c p = record {
+  answers = a ∙ ap (λ (x : Imported). answerNumber (x .answer)) (p .answers);
+  starts = s ∙ ap (λ (x : Imported). x .start) (p .answers);
+  ends = e ∙ ap (λ (x : Imported). x .end) (p .answers);
+  loops = b ∙ ap (λ (x : Imported). x .bits) (p .answers);
+  counts = c ∙ ap (λ (x : Imported). x .samples) (p .answers);
+  leaves = p .leaves;
+}

@@ -3,7 +3,7 @@
 ghost use mathlib.Core.Path.{_≡_};
 ghost use Rattle.codes.specs.Codes.{valueOf, Compressed};
 ghost use Rattle.calls.specs.Calls.{Reset, Write, SetPot};
-ghost use Rattle.otto.specs.Promises.{Calling, Reading, Framing};
+ghost use Rattle.otto.specs.Promises.{Calling, Reading, Framing, Importing};
 
 #[no_mangle]
 pub extern "C" fn otto_reset(record: &mut [u32]) -> u32
@@ -63,4 +63,26 @@ pub extern "C" fn otto_expand(code: u8) -> i16
     ensures { λ r. ⌜ r ≡ valueOf code ⌝ }
 {
     codes::expand(code)
+}
+
+// What `loop` is in the header has another name here: `loop` is a word of the language.
+#[no_mangle]
+pub extern "C" fn otto_import(
+    file: &[u8],
+    memory: &mut [u16],
+    word: usize,
+    start: &mut u32,
+    end: &mut u32,
+    bits: &mut u32,
+    samples: &mut u32,
+) -> u32
+    ensures { λ r. ⌜ Importing (now (file .entry)) (now (memory .entry)) word r (now (start .exit)) (now (end .exit)) (now (bits .exit)) (now (samples .exit)) (now (memory .exit)) ⌝ }
+{
+    let got = wave::import(file, memory, word);
+    *start = got.start;
+    *end = got.end;
+    *bits = got.bits;
+    *samples = got.samples;
+    let a = got.answer;
+    answer::number(a)
 }

@@ -5,3 +5,5 @@ pub mod Collecting
 pub mod Parsing
 pub mod Settling
 pub mod Importing
+pub mod Corollaries
+pub mod Files
