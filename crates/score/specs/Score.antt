@@ -2,24 +2,17 @@
 use Prim.Native.Nat.{ℕ, _+_, _*_, _<_}
 use mathlib.Core.Path.{_≡_}
 use mathlib.Core.Bool.{cond}
-use mathlib.Core.List.{List}
+use mathlib.Core.List.{List, [], _∷_}
 use lib.Dec.{eqb}
 use lib.ListN.{getD}
+use Rattle.layout.specs.Bytes.{big}
 use Rattle.calls.specs.declared.Ask.the-variants.{Reset, Write, Read, SetPot, Frame}
 use Rattle.score.specs.declared.Command.{Command}
 use Rattle.score.specs.declared.Command.the-variants.{Call, Unknown}
 
--- two bytes as one word, the high one first
-abbrev pub twoBytes : ℕ → ℕ → ℕ
-twoBytes high low = 256 * high + low
-
--- the first n words of the memory are the pairs of the score's bytes
+-- the first n words of the memory are the score's bytes by twos, the high one first
 abbrev pub Filled : ℕ → List ℕ → List ℕ → Type 0
-Filled n score memory = (k : ℕ) → k < n → getD memory k 0 ≡ twoBytes (getD score (2 * k) 0) (getD score (2 * k + 1) 0)
-
--- four bytes as one number, the highest first
-abbrev pub fourBytes : ℕ → ℕ → ℕ → ℕ → ℕ
-fourBytes a b c d = 16777216 * a + 65536 * b + 256 * c + d
+Filled n score memory = (k : ℕ) → k < n → getD memory k 0 ≡ big (getD score (2 * k) 0 ∷ getD score (2 * k + 1) 0 ∷ [])
 
 unfoldable pub commandOf : ℕ → ℕ → ℕ → Command
 commandOf kind n byte =
@@ -31,4 +24,4 @@ commandOf kind n byte =
 
 -- the command whose six bytes begin at i
 abbrev pub commandAt : List ℕ → ℕ → Command
-commandAt xs i = commandOf (getD xs i 0) (fourBytes (getD xs (i + 1) 0) (getD xs (i + 2) 0) (getD xs (i + 3) 0) (getD xs (i + 4) 0)) (getD xs (i + 5) 0)
+commandAt xs i = commandOf (getD xs i 0) (big (getD xs (i + 1) 0 ∷ getD xs (i + 2) 0 ∷ getD xs (i + 3) 0 ∷ getD xs (i + 4) 0 ∷ [])) (getD xs (i + 5) 0)

@@ -11,7 +11,7 @@ ghost use mathlib.Core.Path.{_≡_};
 ghost use Prim.Native.Nat.{_+_, _*_, _≤_};
 ghost use lib.IntN.{natAbs};
 ghost use lib.ListN.{length};
-ghost use Rattle.score.specs.Score.{twoBytes, Filled, fourBytes, commandOf, commandAt};
+ghost use Rattle.score.specs.Score.{Filled, commandOf, commandAt};
 use calls::Ask;
 use calls::Reply;
 use libc::STDIN_FILENO;
@@ -42,7 +42,7 @@ fn fill(memory: &mut [u16], score: &[u8])
     ensures { λ _. ⌜ Filled (length (now (memory .entry))) (now (score .entry)) (now (memory .exit)) ⌝ }
 {
     for i in 0..memory.len() {
-        memory[i] = two_bytes(score[2 * i], score[2 * i + 1]);
+        memory[i] = layout::big2(score[2 * i], score[2 * i + 1]);
     }
 }
 
@@ -118,7 +118,7 @@ fn command_at(commands: &[u8], at: usize) -> Command
     requires { ⌜ at + 6 ≤ length (now commands) ⌝ }
     ensures { λ r. ⌜ r ≡ commandAt (now (commands .entry)) at ⌝ }
 {
-    let n = four_bytes(
+    let n = layout::big4(
         commands[at + 1],
         commands[at + 2],
         commands[at + 3],
@@ -138,17 +138,4 @@ fn command_of(kind: u8, n: u32, byte: u8) -> Command
         4 => Command::Call(Ask::Frame),
         _ => Command::Unknown,
     }
-}
-
-// Four bytes as one number, the highest first.
-fn four_bytes(a: u8, b: u8, c: u8, d: u8) -> u32
-    ensures { λ r. ⌜ r ≡ fourBytes a b c d ⌝ }
-{
-    16777216 * a as u32 + 65536 * b as u32 + 256 * c as u32 + d as u32
-}
-
-fn two_bytes(high: u8, low: u8) -> u16
-    ensures { λ r. ⌜ r ≡ twoBytes high low ⌝ }
-{
-    256 * high as u16 + low as u16
 }
