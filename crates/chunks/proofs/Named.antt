@@ -1,12 +1,12 @@
 -- What holds of each chunk of a list: that chunks in a row lie before the end; and of the chunks of a name what holds of all. Then the chunks of a
 -- name in a list that is longer by some. Assumes nothing.
-use mathlib.Core.Path.{_≡_, refl, _∙_}
+use mathlib.Core.Path.{_≡_, refl}
 use mathlib.Core.Bool.{Bool, true, false, cond}
 use mathlib.Core.List.{List, [], _∷_, _++_}
 use Prim.Native.Nat.{ℕ, _+_, _≤_}
 use native.Mathlib.Omega.{arith}
 use lib.Dec.{eqb}
-use Rattle.chunks.specs.Chunks.{named, chunkAt, next}
+use Rattle.chunks.specs.Chunks.{named, next}
 use Rattle.chunks.specs.Row.{InRow}
 use Rattle.chunks.specs.declared.Chunk.{Chunk}
 use Rattle.chunks.proofs.Row.{whole-before}

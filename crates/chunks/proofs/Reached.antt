@@ -1,6 +1,6 @@
 -- What `chunks::chunk_at` answers at each of its tests: a chunk whose header, bytes or pad run past the end, and a whole one. Then the same the
 -- other way: what each answer tells of the place. Assumes nothing.
-use mathlib.Core.Path.{_≡_, refl, sym, _∙_}
+use mathlib.Core.Path.{_≡_, refl}
 use mathlib.Core.Bool.{Bool, true, false, cond, and-false}
 use mathlib.Core.List.{List}
 use Prim.Native.Nat.{ℕ, _+_, _%_, _≤_, _<_}

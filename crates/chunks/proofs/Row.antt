@@ -1,8 +1,8 @@
 -- A file is read as some chunks exactly where they stand in a row up to the end; so how many chunks are allowed for does not matter.
 -- In order: where a whole chunk ends; one step of the reading; from the reading to the row, and back; what chunks in a row are: within the end, and
 -- few. Assumes nothing.
-use mathlib.Core.Path.{_≡_, refl, sym, ap, _∙_}
-use mathlib.Core.Bool.{Bool, true, false, cond, and-eq-true-iff}
+use mathlib.Core.Path.{_≡_, refl, _∙_}
+use mathlib.Core.Bool.{true, cond, and-eq-true-iff}
 use mathlib.Core.List.{List, [], _∷_}
 use Prim.Native.Nat.{ℕ, zero, suc, _+_, _-_, _*_, _≤_, _<_}
 use native.Mathlib.Numerals.{sub-one}

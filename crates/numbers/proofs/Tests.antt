@@ -1,11 +1,12 @@
 -- Choices by a test, and a rule at each number below a bound by one computed test.
--- In order: `either`, a fact of a choice from a fact of each side; `split`, the two cases of a test, and `cases`, those of an order;
+-- In order: `either`, a fact of a choice from a fact of each side; `split`, the two cases of a test, and `cases`, those of an order; `neither`, two
+-- tests of which none holds;
 -- `all`, a test at each number below n, which antt computes, and `all-at`, the fact at one of them; `listed`, the list of a
 -- function's values, which a constant table is compared with, and `listed-at`, its entry; `filled-on`, a list that is filled with them
 -- from its start on, one entry more; `alongside`, a fact of two choices from a fact of the sides of each. Assumes nothing.
 use mathlib.Core.Path.{_≡_, refl, sym, ap, subst, _∙_}
 use mathlib.Core.List.{List, [], _∷_}
-use mathlib.Core.Bool.{Bool, true, false, cond, false≢true}
+use mathlib.Core.Bool.{Bool, true, false, cond, _||_, false≢true}
 use Prim.Native.Nat.{ℕ, zero, suc, _+_, _<_, _≤_}
 use native.Mathlib.Nat.{not-suc-le-zero, le-of-suc-le-suc, add-zero, add-suc, suc-add}
 use native.Mathlib.Decide.{ℕ-discrete}
@@ -25,6 +26,10 @@ split P false f g = g refl
 
 pub cases : (a b : ℕ) (P : Type 0) → (a < b → P) → (b ≤ a → P) → P
 cases a b P f g = split P (ltb a b) (λ t. f (ltb-true a b t)) (λ t. g (ltb-false a b t))
+
+pub neither : (a b : Bool) → (a || b) ≡ false → (a ≡ false) × (b ≡ false)
+neither true b h = absurd (false≢true (sym h))
+neither false b h = (refl, h)
 
 -- the test f passes at each number below n
 abbrev pub all : (ℕ → Bool) → ℕ → Bool

@@ -8,8 +8,8 @@ use Rattle.answer.specs.declared.Answer.{Answer}
 use Rattle.machine.specs.Reset.{Resets}
 use Rattle.registers.specs.Access.{Writes, Reads, SetsPot}
 use Rattle.frame.specs.Frame.{Frames}
-use Rattle.wave.specs.Import.{Imports}
-use Rattle.wave.specs.declared.Imported.{Imported}
+use Rattle.wave_in.specs.Import.{Imports}
+use Rattle.wave_in.specs.declared.Imported.{Imported}
 use Rattle.calls.specs.Calls.{Reset, Write, SetPot, answerTo, after, givenBy, outputFrom}
 use Rattle.otto.specs.Promises.{Calling, Reading, Framing, Importing}
 

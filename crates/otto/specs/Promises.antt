@@ -6,7 +6,7 @@ use mathlib.Core.List.{List}
 use lib.IntN.{ℤ}
 use lib.ListN.{length}
 use Rattle.answer.specs.Answer.{answerNumber}
-use Rattle.wave.specs.Import.{imported, importMemory}
+use Rattle.wave_in.specs.Import.{imported, importMemory}
 use Rattle.calls.specs.Calls.{Call, answerTo, after, givenBy, outputFrom, Read, Frame}
 
 -- a call that is lent a record alone

@@ -78,7 +78,7 @@ pub extern "C" fn otto_import(
 ) -> u32
     ensures { λ r. ⌜ Importing (now (file .entry)) (now (memory .entry)) word r (now (start .exit)) (now (end .exit)) (now (bits .exit)) (now (samples .exit)) (now (memory .exit)) ⌝ }
 {
-    let got = wave::import(file, memory, word);
+    let got = wave_in::import(file, memory, word);
     *start = got.start;
     *end = got.end;
     *bits = got.bits;

@@ -4,24 +4,25 @@
 use mathlib.Core.Path.{_≡_, refl, sym, ap, _∙_}
 use mathlib.Core.Bool.{true, false, _||_}
 use mathlib.Core.List.{List, [], _∷_, _++_}
-use Prim.Native.Nat.{ℕ, zero, suc, _+_, _-_, _*_, _%_, _≤_, _<_}
+use Prim.Native.Nat.{ℕ, zero, suc, _+_, _*_, _%_, _≤_, _<_}
 use native.Mathlib.Omega.{arith}
 use borrow.Author.Tests.{ltb-false}
 use lib.Dec.{leb, ltb}
 use lib.ListN.{length, replicate}
+use Rattle.numbers.proofs.Tests.{neither}
 use Rattle.answer.specs.Answer.{isDone}
 use Rattle.control.specs.Control.{bitOf, flagOf, withBit, runs, LEI, LPE, BLE, DIR}
 use Rattle.layout.specs.Bytes.{little, twos}
 use Rattle.sample.specs.Sample.{WHOLE_SAMPLE}
 use Rattle.chunks.specs.Chunks.{chunksOf, chunkAt, isWhole, before, chunksFrom, isHeaded, reading, isUnread, listed, named}
-use Rattle.wave.specs.Rules.{dataOf, countOf, loopOf, registerAt, startOf, endOf, typeBits, bitsOf, firstOf, isOnce, anyShort, isMono16, isCut, loopIn, anyCut, firstLoop}
-use Rattle.wave.specs.Import.{isOutside, importAnswer, takenAt, imported, isBroken, isMiscounted, isOtherFormat, hasNoPlace}
-use Rattle.wave.specs.declared.Imported.{Imported}
+use Rattle.wave.specs.Wave.{dataOf, countOf, loopOf, firstOf, isOnce, anyShort, isMono16, isCut, loopIn, anyCut, firstLoop, isBroken}
+use Rattle.wave_in.specs.Registers.{registerAt, startOf, endOf, typeBits, bitsOf}
+use Rattle.wave_in.specs.Import.{isOutside, importAnswer, takenAt, imported, isMiscounted, isOtherFormat, hasNoPlace}
+use Rattle.wave_in.specs.declared.Imported.{Imported}
 use Rattle.wave.specs.declared.Loop.the-variants.{Present}
-use Rattle.wave.proofs.Parsing.{neither}
-use Rattle.wave.proofs.Importing.{importable, end-fits}
-use Rattle.wave.proofs.Corollaries.{same-done, import-done}
-use Rattle.wave.proofs.Files.{whole, mono, two-samples, sampler}
+use Rattle.wave_in.proofs.Importing.{importable, end-fits}
+use Rattle.wave_in.proofs.Corollaries.{same-done, import-done}
+use Rattle.wave_in.proofs.Files.{whole, mono, two-samples, sampler}
 use Rattle.voice.specs.Voice.{Voice, voiceOf}
 use Rattle.voice.specs.Tune.{turnsOf, Mode, positionOf, periodOf, Loops}
 use Rattle.voice.proofs.Tune.{held-in-tune, back-again}

@@ -10,9 +10,9 @@ use Rattle.answer.specs.Answer.{isDone}
 use Rattle.control.specs.Control.{flagOf, runs, LEI, LPE, BLE, DIR}
 use Rattle.sample.specs.Sample.{WHOLE_SAMPLE}
 use Rattle.chunks.specs.Chunks.{chunksOf}
-use Rattle.wave.specs.Rules.{loopOf}
-use Rattle.wave.specs.Import.{Imports}
-use Rattle.wave.specs.declared.Imported.{Imported}
+use Rattle.wave.specs.Wave.{loopOf}
+use Rattle.wave_in.specs.Import.{Imports}
+use Rattle.wave_in.specs.declared.Imported.{Imported}
 use Rattle.wave.specs.declared.Loop.the-variants.{Present}
 use Rattle.voice.specs.Voice.{Voice}
 use Rattle.voice.specs.Tune.{turnsOf, Kind, Forward, Reverse, Bidirectional, periodOf, InTune}

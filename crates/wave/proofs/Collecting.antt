@@ -2,19 +2,19 @@
 -- In order: format chunks that are short, in a list that is longer; how far the pass has come, as a record; how it begins, where it stops, one chunk
 -- more, and the end. Assumes nothing.
 use mathlib.Core.Path.{_≡_, refl, sym, ap, _∙_}
-use mathlib.Core.Bool.{Bool, true, false, cond, _||_, or-true, or-assoc}
+use mathlib.Core.Bool.{true, false, _||_, or-true, or-assoc}
 use mathlib.Core.List.{List, [], _∷_, _++_, append-assoc, append-nil}
 use Prim.Native.Nat.{ℕ, _+_, _-_, _≤_, _<_}
 use native.Mathlib.Omega.{arith}
-use Rattle.chunks.specs.Chunks.{Reading, broken, chunks, before, chunksFrom, chunkAt, next, isWhole, FIRST_CHUNK}
+use Rattle.chunks.specs.Chunks.{Reading, broken, chunks, before, chunksFrom, chunkAt, next, FIRST_CHUNK}
 use Rattle.chunks.specs.Walk.{reachOf}
 use Rattle.chunks.specs.declared.Chunk.{Chunk}
 use Rattle.chunks.specs.declared.Reach.{Reach}
 use Rattle.chunks.specs.declared.Reach.the-variants.{Past, Whole}
 use Rattle.chunks.proofs.Reached.{was-past, was-whole}
 use Rattle.chunks.proofs.Row.{whole-before, goes-on, no-chunk, one-chunk}
-use Rattle.wave.specs.Rules.{isShort, anyShort}
-use Rattle.wave.specs.Steps.{foundOf, noneFound, withChunk, collectedOf}
+use Rattle.wave.specs.Wave.{isShort, anyShort}
+use Rattle.wave.specs.Parse.{foundOf, noneFound, withChunk, collectedOf}
 use Rattle.wave.specs.declared.Found.{Found}
 use Rattle.wave.specs.declared.Parsed.the-variants.{Broken, Chunks}
 use Rattle.wave.proofs.Keeping.{found-more, none-found}

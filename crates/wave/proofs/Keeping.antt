@@ -11,11 +11,9 @@ use lib.Dec.{eqb}
 use Rattle.chunks.specs.Chunks.{named, FORMAT, DATA, SAMPLER}
 use Rattle.chunks.specs.declared.Chunk.{Chunk}
 use Rattle.chunks.proofs.Named.{Each, named-append}
-use Rattle.wave.specs.Rules.{firstOf, isOnce, anyCut, firstLoop}
-use Rattle.wave.specs.Steps.{keptOf, again, keep, foundOf, noneFound, withChunk, anyCutOf, loopOfKept, OfKept}
-use Rattle.wave.specs.declared.Kept.{Kept}
-use Rattle.wave.specs.declared.Kept.the-variants.{Nothing, Once, Again}
-use Rattle.wave.specs.declared.Found.{Found}
+use Rattle.wave.specs.Wave.{firstOf, isOnce, anyCut, firstLoop}
+use Rattle.wave.specs.Parse.{keptOf, again, keep, foundOf, noneFound, withChunk, anyCutOf, loopOfKept, OfKept}
+use Rattle.wave.specs.declared.Kept.the-variants.{Once}
 use Rattle.wave.proofs.Kept.{the-type}
 
 -- ---- one chunk more

@@ -1,9 +1,4 @@
-pub mod Copied
-pub mod Placed
 pub mod Keeping
 pub mod Collecting
 pub mod Parsing
-pub mod Settling
-pub mod Importing
-pub mod Corollaries
-pub mod Files
+pub mod Sound

@@ -1,33 +1,24 @@
 -- What `wave::parse` answers.
 -- In order: what the pass over the chunks came to; a file that can be read as chunks: they stand in a row, in the file; the answer at each test; what
 -- an answer tells of the file. Assumes nothing.
-use mathlib.Core.Path.{_≡_, refl, sym, ap, _∙_}
-use mathlib.Core.Bool.{Bool, true, false, cond, _||_, or-true, false≢true}
+use mathlib.Core.Path.{_≡_, refl, sym, _∙_}
+use mathlib.Core.Bool.{Bool, true, false, cond, _||_, false≢true}
 use mathlib.Core.List.{List, [], _∷_}
-use Prim.Native.Nat.{ℕ, _+_, _≤_}
+use Prim.Native.Nat.{ℕ, _≤_}
 use native.Mathlib.Omega.{arith}
-use borrow.Author.Tests.{ltb-false, eqb-true}
-use lib.Dec.{ltb, eqb}
 use lib.ListN.{length}
-use Rattle.chunks.specs.Chunks.{Reading, broken, chunks, chunksFrom, riffEnd, isHeaded, reading, isUnread, listed, chunksOf, named, FORMAT, SAMPLER, FIRST_CHUNK, MOST_FILE_BYTES}
+use Rattle.chunks.specs.Chunks.{Reading, broken, chunks, chunksFrom, riffEnd, isHeaded, reading, isUnread, listed, chunksOf, named, SAMPLER, FIRST_CHUNK, MOST_FILE_BYTES}
 use Rattle.chunks.specs.Row.{InRow}
 use Rattle.chunks.specs.declared.Chunk.{Chunk}
 use Rattle.chunks.proofs.Headed.{headed-within}
 use Rattle.chunks.proofs.Row.{read-in-row}
 use Rattle.chunks.proofs.Named.{Each, Before, row-before, each-named}
-use Rattle.wave.specs.Rules.{anyShort, anyCut}
-use Rattle.wave.specs.Import.{isBroken}
-use Rattle.wave.specs.Steps.{foundOf, anyCutOf, collectedOf, parsedOf, InFile, OfKept}
+use Rattle.wave.specs.Wave.{anyShort, anyCut, isBroken}
+use Rattle.wave.specs.Parse.{foundOf, anyCutOf, collectedOf, parsedOf, InFile, OfKept}
 use Rattle.wave.specs.declared.Found.{Found}
 use Rattle.wave.specs.declared.Parsed.{Parsed}
 use Rattle.wave.specs.declared.Parsed.the-variants.{Broken, Chunks}
 use Rattle.wave.proofs.Keeping.{kept-cut, kept-each}
-
--- ---- a test that is one of several
-
-pub neither : (a b : Bool) → (a || b) ≡ false → (a ≡ false) × (b ≡ false)
-neither true b h = absurd (false≢true (sym h))
-neither false b h = (refl, h)
 
 -- ---- what the pass came to
 

@@ -1,3 +1,2 @@
-pub mod Rules
-pub mod Import
-pub mod Steps
+pub mod Wave
+pub mod Parse

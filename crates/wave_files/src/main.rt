@@ -5,7 +5,7 @@
 ghost use Prim.Native.Nat.{_+_, _≤_};
 ghost use lib.ListN.{length};
 use libc::STDOUT_FILENO;
-use wave::Imported;
+use wave_in::Imported;
 
 // The named word, and what every word of the memory holds before.
 const WORD: usize = 16;
@@ -32,7 +32,7 @@ fn take(i: usize) {
     let bytes = io::read_full(fd, &mut file);
     libc::close(fd);
     let mut memory = [FILLER; 512];
-    let got = wave::import(&file[..bytes], &mut memory, WORD);
+    let got = wave_in::import(&file[..bytes], &mut memory, WORD);
     io::write_all(STDOUT_FILENO, &name[..n]);
     say(got, &memory);
 }

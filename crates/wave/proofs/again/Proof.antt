@@ -1,6 +1,6 @@
 -- `wave::again` meets its contract. Assumes nothing.
 use borrow.Author.Needs.{needs}
-use Rattle.wave.specs.Steps.{again}
+use Rattle.wave.specs.Parse.{again}
 use Rattle.wave.proofs.again.Statement.{statement}
 use Rattle.wave.proofs.again.Tie as tie
 

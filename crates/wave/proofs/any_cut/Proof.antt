@@ -1,7 +1,6 @@
 -- `wave::any_cut` meets its contract. Assumes nothing.
-use mathlib.Core.Path.{_∙_}
 use borrow.Author.Needs.{needs}
-use Rattle.wave.specs.Steps.{anyCutOf, InFile, OfKept}
+use Rattle.wave.specs.Parse.{anyCutOf}
 use Rattle.wave.proofs.any_cut.Statement.{statement}
 use Rattle.wave.proofs.any_cut.Tie as tie
 

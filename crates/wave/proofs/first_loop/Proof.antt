@@ -1,6 +1,6 @@
 -- `wave::first_loop` meets its contract. Assumes nothing.
 use borrow.Author.Needs.{needs}
-use Rattle.wave.specs.Steps.{loopOfKept, Uncut, OfKept}
+use Rattle.wave.specs.Parse.{loopOfKept}
 use Rattle.wave.proofs.first_loop.Statement.{statement}
 use Rattle.wave.proofs.first_loop.Tie as tie
 

@@ -1,10 +1,10 @@
 -- `wave::is_cut` meets its contract. Assumes nothing.
-use mathlib.Core.Path.{_≡_, sym}
-use Prim.Native.Nat.{_+_, _*_, _<_}
+use mathlib.Core.Path.{sym}
+use Prim.Native.Nat.{_+_, _*_}
 use native.Mathlib.Omega.{arith}
 use borrow.Author.Needs.{needs}
 use borrow.Author.Tests.{lt-ltb}
-use Rattle.wave.specs.Rules.{isCut, loopsOf, SAMPLER-BYTES, LOOP-BYTES}
+use Rattle.wave.specs.Wave.{isCut, loopsOf, SAMPLER-BYTES, LOOP-BYTES}
 use Rattle.wave.proofs.is_cut.Statement.{statement}
 use Rattle.wave.proofs.is_cut.Tie as tie
 

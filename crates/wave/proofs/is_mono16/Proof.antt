@@ -1,6 +1,6 @@
 -- `wave::is_mono16` meets its contract. Assumes nothing.
 use borrow.Author.Needs.{needs}
-use Rattle.wave.specs.Rules.{isMono16}
+use Rattle.wave.specs.Wave.{isMono16}
 use Rattle.wave.proofs.is_mono16.Statement.{statement}
 use Rattle.wave.proofs.is_mono16.Tie as tie
 

@@ -1,7 +1,7 @@
 -- `wave::loop_in` meets its contract. Assumes nothing.
 use borrow.Author.Needs.{needs}
 use borrow.Author.Tests.{ne-eqb}
-use Rattle.wave.specs.Rules.{loopIn}
+use Rattle.wave.specs.Wave.{loopIn}
 use Rattle.wave.proofs.loop_in.Statement.{statement}
 use Rattle.wave.proofs.loop_in.Tie as tie
 

@@ -1,0 +1,79 @@
+-- What importing a WAVE file promises.
+-- In order: the refusals, each by itself, and their order; what the call answers; the memory afterwards; the promise. Assumes nothing.
+use mathlib.Core.Path.{_≡_}
+use Prim.Native.Nat.{ℕ, _+_, _%_}
+use mathlib.Core.Bool.{Bool, false, cond, not, _&&_, _||_}
+use mathlib.Core.List.{List, [], _∷_}
+use lib.Dec.{leb, ltb, eqb}
+use lib.ListN.{length}
+use Rattle.answer.specs.Answer.{isDone, firstRefusal}
+use Rattle.answer.specs.declared.Answer.{Answer}
+use Rattle.answer.specs.declared.Answer.the-variants.{Done, MemoryLength, FileBroken, ChunkCount, SampleFormat, LoopInvalid, NoPlace}
+use Rattle.machine.specs.Words.{voiceRange, END}
+use Rattle.layout.specs.Parts.{withPart}
+use Rattle.sample.specs.Sample.{BANK_WORDS, tooManyWords}
+use Rattle.chunks.specs.Chunks.{chunksOf, named, FORMAT, DATA}
+use Rattle.chunks.specs.declared.Chunk.{Chunk}
+use Rattle.wave.specs.Wave.{isOnce, formatOf, isMono16, dataOf, countOf, samplesOf, loopOf, isBroken}
+use Rattle.wave.specs.declared.Loop.{Loop}
+use Rattle.wave.specs.declared.Loop.the-variants.{Absent, Present}
+use Rattle.wave_in.specs.Registers.{startOf, endOf, bitsOf}
+use Rattle.wave_in.specs.declared.Imported.{Imported}
+
+-- ---- refusals; room is how many words are lent, and word the one that the caller names
+
+-- 20 is `isBroken`, of the file alone
+
+-- 21: format or data missing, or given twice
+unfoldable pub isMiscounted : List Chunk → Bool
+isMiscounted cs = not (isOnce (named FORMAT cs) && isOnce (named DATA cs))
+
+-- 22: not mono 16-bit PCM, or an odd number of bytes of data
+unfoldable pub isOtherFormat : List ℕ → List Chunk → Bool
+isOtherFormat file cs = not (isMono16 file (formatOf cs)) || eqb (dataOf cs .size % 2) 1
+
+-- 23: a loop that is outside the data, ends before its start, or is of another type
+unfoldable pub isOutside : ℕ → Loop → Bool
+isOutside count Absent = false
+isOutside count (Present kind start last) = leb count last || (ltb last start || ltb 2 kind)
+
+-- 24: the samples would cross the end of the lent memory or of a bank, or END would not fit its register
+unfoldable pub hasNoPlace : ℕ → ℕ → ℕ → Loop → Bool
+hasNoPlace room word count l = ltb room (word + count) || (ltb BANK_WORDS (word % BANK_WORDS + count) || leb (voiceRange END) (endOf word l))
+
+-- in their order
+unfoldable pub importAnswer : List ℕ → ℕ → ℕ → Answer
+importAnswer file room word =
+    let cs = chunksOf file in
+    let count = countOf (dataOf cs) in
+    firstRefusal
+    ((tooManyWords room, MemoryLength)
+    ∷ (isBroken file, FileBroken)
+    ∷ (isMiscounted cs, ChunkCount)
+    ∷ (isOtherFormat file cs, SampleFormat)
+    ∷ (isOutside count (loopOf file cs), LoopInvalid)
+    ∷ (hasNoPlace room word count (loopOf file cs), NoPlace)
+    ∷ [])
+
+-- ---- what is answered
+
+abbrev pub refusedBy : Answer → Imported
+refusedBy a = record { answer = a; start = 0; end = 0; bits = 0; samples = 0 }
+
+abbrev pub takenAt : ℕ → Chunk → Loop → Imported
+takenAt word sound l = record { answer = Done; start = startOf word l; end = endOf word l; bits = bitsOf l; samples = countOf sound }
+
+unfoldable pub imported : List ℕ → ℕ → ℕ → Imported
+imported file room word =
+    cond (isDone (importAnswer file room word)) (takenAt word (dataOf (chunksOf file)) (loopOf file (chunksOf file))) (refusedBy (importAnswer file room word))
+
+-- ---- the memory afterwards: the samples stand from the named word on
+
+unfoldable pub importMemory : List ℕ → List ℕ → ℕ → List ℕ
+importMemory file memory word =
+    cond (isDone (importAnswer file (length memory) word)) (withPart memory word (samplesOf file (dataOf (chunksOf file)))) memory
+
+-- the promise: all that is answered, and every word of the memory afterwards
+pub record Imports (file memory : List ℕ) (word : ℕ) (r : Imported) (after : List ℕ) : Type 0 where
+  pub answers : r ≡ imported file (length memory) word
+  pub leaves : after ≡ importMemory file memory word
