@@ -12,6 +12,7 @@
 #include "otto.h"
 #include "random.h"
 #include "reference.h"
+#include "waves.h"
 
 #define NOISE_WORDS 65536u /* that the voices' loops lie in */
 #define MOST_ECOUNT 511u
@@ -308,6 +309,67 @@ static uint32_t run_expand(uint32_t times)
     return sum;
 }
 
+/* ==== WAVE files ========================================================== */
+
+#define IMPORT_WORD   1000u
+#define FULL_SAMPLES  32712u /* of a full file with a format and one loop */
+#define EMPTY_CHUNKS  8186u  /* of one with a format and two samples */
+
+static struct wave wave;
+
+static void add_samples(uint32_t count)
+{
+    wave_open(&wave, "data");
+    for (uint32_t i = 0; i < count; i++) {
+        wave_put(&wave, random_word(), 2);
+    }
+    wave_close(&wave);
+}
+
+/* The file in wave, which must be as long as can be, with so many samples. */
+static uint32_t imports(uint32_t times, uint32_t count)
+{
+    uint32_t start = 0;
+    uint32_t end = 0;
+    uint32_t loop = 0;
+    uint32_t samples = count;
+    uint32_t sum = 0;
+
+    must(wave.length == OTTO_MOST_FILE_BYTES, "the file is full");
+    for (uint32_t i = 0; i < times; i++) {
+        sum += engine->import(wave.bytes, wave.length, memory, NOISE_WORDS,
+                              IMPORT_WORD, &start, &end, &loop, &samples);
+        sum = 31 * sum + start + end + loop + samples +
+              memory[IMPORT_WORD + i % count];
+    }
+    must(samples == count, "the file is brought in");
+    return sum;
+}
+
+/* Nearly all samples. */
+static uint32_t run_import(uint32_t times)
+{
+    static const struct wave_loop loop = { 1, 100, FULL_SAMPLES - 1, 0, 0 };
+
+    wave_begin(&wave);
+    wave_add_format(&wave, &wave_mono);
+    add_samples(FULL_SAMPLES);
+    wave_add_loop(&wave, &loop);
+    return imports(times, FULL_SAMPLES);
+}
+
+/* Nearly all headers of chunks that are skipped. */
+static uint32_t run_import_chunks(uint32_t times)
+{
+    wave_begin(&wave);
+    wave_add_format(&wave, &wave_mono);
+    for (uint32_t i = 0; i < EMPTY_CHUNKS; i++) {
+        wave_add_empty(&wave, "skip");
+    }
+    add_samples(2);
+    return imports(times, 2);
+}
+
 /* The loop around the calls alone, to be taken off. */
 static uint32_t run_nothing(uint32_t times)
 {
@@ -332,6 +394,8 @@ static const struct {
     { "read", run_read },
     { "compress", run_compress },
     { "expand", run_expand },
+    { "import", run_import },
+    { "import_chunks", run_import_chunks },
     { "nothing", run_nothing },
     { "claims", run_claims },
 };

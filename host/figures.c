@@ -2,41 +2,17 @@
  * Checks the reference model against known figures: the table of checked
  * figures in the rules, the manual's examples of compressed samples, the
  * refusals and their order, and the places where the wording could be taken
- * in two ways.
+ * in two ways. Those of WAVE files are in wave_figures.c.
  *
  * Record words are mostly written as plain numbers here, so that the names in
  * the header are checked too.
  */
-#include <inttypes.h>
 #include <stdio.h>
 #include <string.h>
 
+#include "checks.h"
 #include "reference.h"
-
-/* ==== counting ============================================================ */
-
-static unsigned long checks;
-static unsigned long failed;
-
-static void check(const char *name, int64_t got, int64_t want)
-{
-    checks += 1;
-    if (got != want) {
-        failed += 1;
-        printf("failed: %s: got %" PRId64 ", want %" PRId64 "\n", name, got,
-               want);
-    }
-}
-
-static void check_at(const char *name, uint32_t a, uint32_t b, int64_t got,
-                     int64_t want)
-{
-    char text[160];
-
-    (void)snprintf(text, sizeof text, "%s [%" PRIu32 ", %" PRIu32 "]", name,
-                   a, b);
-    check(text, got, want);
-}
+#include "wave_figures.h"
 
 /* ==== the bench =========================================================== */
 
@@ -1680,7 +1656,7 @@ static void (*const groups[])(void) = {
     missing_words, missing_of_all, missing_as_it_begins, filters, pole_edges,
     halving, range, volume, what_sounds, written_sums, address, address_rest,
     ramps, slow_ramps, values_before_ramps, events, waiting_interrupts,
-    idle_frames,
+    idle_frames, wave_figures,
 };
 
 int main(void)

@@ -6,7 +6,6 @@
  * not change. A record may end a few words before the page, which must not
  * change either. Sample memory cannot be written at all.
  */
-#define _DEFAULT_SOURCE
 #include "pair.h"
 
 #include <inttypes.h>
@@ -14,9 +13,8 @@
 #include <stdio.h>
 #include <stdlib.h>
 #include <string.h>
-#include <sys/mman.h>
-#include <unistd.h>
 
+#include "guard.h"
 #include "otto.h"
 #include "random.h"
 
@@ -48,33 +46,16 @@ static unsigned long calls; /* since the seed was set */
 
 /* ==== buffers ============================================================= */
 
-/* The end of so many bytes, at the edge of a page that cannot be touched. */
-static void *guarded(size_t bytes)
-{
-    size_t page = (size_t)sysconf(_SC_PAGESIZE);
-    size_t whole = (bytes + page - 1) / page * page;
-    uint8_t *at = mmap(NULL, whole + page, PROT_READ | PROT_WRITE,
-                       MAP_PRIVATE | MAP_ANONYMOUS, -1, 0);
-
-    if (at == MAP_FAILED || mprotect(at + whole, page, PROT_NONE) != 0) {
-        perror("differ: no memory");
-        exit(2);
-    }
-    return at + whole;
-}
-
 static void fill_memory(void)
 {
     size_t bytes = MOST_MEMORY * sizeof(uint16_t);
     uint16_t *end = guarded(bytes);
-    size_t page = (size_t)sysconf(_SC_PAGESIZE);
-    size_t whole = (bytes + page - 1) / page * page;
 
     random_seed(0);
     for (size_t i = 1; i <= MOST_MEMORY; i++) {
         end[-(ptrdiff_t)i] = (uint16_t)random_word();
     }
-    (void)mprotect((uint8_t *)end - whole, whole, PROT_READ);
+    guard_from_writing(end, bytes);
     memory_end = end;
 }
 

@@ -1,7 +1,8 @@
 /*
- * A plain reference model of the sound chip: the seven public operations over
- * a machine record that the caller lends, and the few arithmetic rules that
- * are worth checking by themselves.
+ * A plain reference model of the sound chip: the eight public operations over
+ * what the caller lends, and the few arithmetic rules that are worth checking
+ * by themselves. Bringing in a WAVE file is in reference_wave.c, all else in
+ * reference.c.
  *
  * The model favours being easy to compare with the written rules over speed.
  */
@@ -21,6 +22,11 @@
 #define ANSWER_MEMORY_LENGTH  5u
 #define ANSWER_OUTPUT_LENGTH  6u
 #define ANSWER_TOO_FEW_VOICES 7u
+#define ANSWER_FILE_BROKEN    20u
+#define ANSWER_CHUNK_COUNT    21u
+#define ANSWER_SAMPLE_FORMAT  22u
+#define ANSWER_LOOP_INVALID   23u
+#define ANSWER_NO_PLACE       24u
 
 /* ---- limits ------------------------------------------------------------- */
 
@@ -34,6 +40,8 @@
 #define POT_LIMIT         1023u
 #define NO_INTERRUPT      128u
 #define LEAST_ACTV        4u /* that a frame takes: five voices */
+#define MOST_FILE_BYTES   65536u
+#define WHOLE_SAMPLE      2048u /* in START, END and ACCUM */
 
 /* ---- the record: words of a voice, counted from the voice's first word -- */
 
@@ -92,7 +100,25 @@
 #define CR_BS0  0x4000u
 #define CR_BS1  0x8000u
 
-/* ---- the seven public operations ---------------------------------------- */
+/* ---- WAVE files: lengths, and places of what is read --------------------- */
+
+#define RIFF_LENGTH   4u /* the place of the RIFF chunk's length */
+#define RIFF_KIND     8u /* of 'WAVE', from which that length counts */
+#define FIRST_CHUNK   12u
+#define CHUNK_LENGTH  4u /* counted from a chunk's name */
+#define HEADER_BYTES  8u /* of a chunk: its name and its length */
+#define FORMAT_BYTES  16u
+#define FORMAT_TAG    0u /* counted from the first byte after the length */
+#define CHANNELS      2u
+#define SAMPLE_BITS   14u
+#define SAMPLER_BYTES 36u
+#define LOOP_COUNT    28u
+#define LOOP_BYTES    24u
+#define LOOP_TYPE     4u /* counted from the loop's first byte */
+#define LOOP_START    8u
+#define LOOP_END      12u
+
+/* ---- the eight public operations ---------------------------------------- */
 
 uint32_t reference_reset(uint32_t *record, size_t words);
 uint32_t reference_write(uint32_t *record, size_t words, uint32_t address,
@@ -104,6 +130,10 @@ uint32_t reference_frame(uint32_t *record, size_t words,
                          const uint16_t *memory, size_t memory_words,
                          int32_t *output, size_t output_values,
                          uint32_t *missing);
+uint32_t reference_import(const uint8_t *file, size_t file_bytes,
+                          uint16_t *memory, size_t memory_words, size_t word,
+                          uint32_t *start, uint32_t *end, uint32_t *loop,
+                          uint32_t *samples);
 uint8_t reference_compress(int16_t sample);
 int16_t reference_expand(uint8_t code);
 

@@ -524,5 +524,200 @@ static uint32_t frame(uint32_t *record, size_t words, const uint16_t *memory,
     return ANSWER_DONE;
 }
 
-const struct engine ENGINE = { NAME,    reset, write,    read,
-                               set_pot, frame, compress, expand };
+/* ==== WAVE files ========================================================== */
+
+/* Numbers of a file, low byte first; compilers make one load of each. */
+static UNFOLD uint32_t short_at(const uint8_t *bytes)
+{
+    return (uint32_t)bytes[0] | (uint32_t)bytes[1] << 8;
+}
+
+static UNFOLD uint32_t long_at(const uint8_t *bytes)
+{
+    return (uint32_t)bytes[0] | (uint32_t)bytes[1] << 8 |
+           (uint32_t)bytes[2] << 16 | (uint32_t)bytes[3] << 24;
+}
+
+#define LETTERS(a, b, c, d)                                                  \
+    ((uint32_t)(a) | (uint32_t)(b) << 8 | (uint32_t)(c) << 16 |              \
+     (uint32_t)(d) << 24)
+
+/* What one walk over the chunks finds: where in the file each stands, 0 where
+   there is none, and its length. */
+struct found {
+    uint64_t format;
+    uint64_t data;
+    uint64_t sampler; /* the first */
+    uint32_t data_bytes;
+    uint32_t sampler_bytes;
+    int is_short; /* a format chunk */
+    int is_twice; /* the format or the data chunk */
+};
+
+static UNFOLD void take(uint32_t name, uint64_t at, uint32_t bytes,
+                        struct found *found)
+{
+    switch (name) {
+    case LETTERS('f', 'm', 't', ' '):
+        found->is_twice |= found->format != 0;
+        found->is_short |= bytes < FORMAT_BYTES;
+        found->format = at;
+        break;
+    case LETTERS('d', 'a', 't', 'a'):
+        found->is_twice |= found->data != 0;
+        found->data = at;
+        found->data_bytes = bytes;
+        break;
+    case LETTERS('s', 'm', 'p', 'l'):
+        if (found->sampler == 0) {
+            found->sampler = at;
+            found->sampler_bytes = bytes;
+        }
+        break;
+    }
+}
+
+/* Whether the chunks end where the row does. One test does for header, length
+   and pad: a chunk that reaches past the end is the last, and of no chunk more
+   than the header is read here. */
+static UNFOLD int walk(const uint8_t *file, uint64_t end, struct found *found)
+{
+    uint64_t at = FIRST_CHUNK;
+
+    while (at <= end - HEADER_BYTES) {
+        uint32_t bytes = long_at(file + at + CHUNK_LENGTH);
+
+        take(long_at(file + at), at, bytes, found);
+        at += HEADER_BYTES + (((uint64_t)bytes + 1) & ~(uint64_t)1);
+    }
+    return at == end;
+}
+
+/* Whether the first sampler chunk, if there is one, has the loops that it
+   counts; *loop is then the first of them, or NULL. */
+static UNFOLD int has_loops(const uint8_t *file, const struct found *found,
+                            const uint8_t **loop)
+{
+    const uint8_t *sampler = file + found->sampler + HEADER_BYTES;
+    uint32_t loops;
+
+    *loop = NULL;
+    if (found->sampler == 0) {
+        return 1;
+    }
+    if (found->sampler_bytes < SAMPLER_BYTES) {
+        return 0;
+    }
+    loops = long_at(sampler + LOOP_COUNT);
+    if (loops != 0) {
+        *loop = sampler + SAMPLER_BYTES;
+    }
+    return loops <= (found->sampler_bytes - SAMPLER_BYTES) / LOOP_BYTES;
+}
+
+static UNFOLD int is_whole(const uint8_t *file, size_t file_bytes,
+                           struct found *found, const uint8_t **loop)
+{
+    uint64_t end;
+
+    if (file_bytes > MOST_FILE_BYTES || file_bytes < FIRST_CHUNK ||
+        long_at(file) != LETTERS('R', 'I', 'F', 'F') ||
+        long_at(file + RIFF_KIND) != LETTERS('W', 'A', 'V', 'E')) {
+        return 0;
+    }
+    end = (uint64_t)long_at(file + RIFF_LENGTH) + RIFF_KIND;
+    return end <= file_bytes && end >= FIRST_CHUNK &&
+           walk(file, end, found) && !found->is_short &&
+           has_loops(file, found, loop);
+}
+
+static UNFOLD uint32_t check_file(const uint8_t *file, size_t file_bytes,
+                                  struct found *found, const uint8_t **loop)
+{
+    const uint8_t *format;
+
+    if (!is_whole(file, file_bytes, found, loop)) {
+        return ANSWER_FILE_BROKEN;
+    }
+    if (found->format == 0 || found->data == 0 || found->is_twice) {
+        return ANSWER_CHUNK_COUNT;
+    }
+    format = file + found->format + HEADER_BYTES;
+    if (short_at(format + FORMAT_TAG) != 1 ||
+        short_at(format + CHANNELS) != 1 ||
+        short_at(format + SAMPLE_BITS) != 16 ||
+        (found->data_bytes & 1) != 0) {
+        return ANSWER_SAMPLE_FORMAT;
+    }
+    if (*loop != NULL &&
+        (long_at(*loop + LOOP_END) >= found->data_bytes / 2 ||
+         long_at(*loop + LOOP_END) < long_at(*loop + LOOP_START) ||
+         long_at(*loop + LOOP_TYPE) > 2)) {
+        return ANSWER_LOOP_INVALID;
+    }
+    return ANSWER_DONE;
+}
+
+#define BLOCK 32u /* samples */
+
+/* Block by block, of which compilers make loads and stores of sixteen bytes. */
+static UNFOLD void copy(uint16_t *memory, const uint8_t *bytes, size_t samples)
+{
+    size_t at = 0;
+
+    for (; at + BLOCK <= samples; at += BLOCK) {
+        uint16_t block[BLOCK];
+
+        for (size_t i = 0; i < BLOCK; i++) {
+            block[i] = (uint16_t)short_at(bytes + 2 * (at + i));
+        }
+        memcpy(memory + at, block, sizeof block);
+    }
+    for (; at < samples; at++) {
+        memory[at] = (uint16_t)short_at(bytes + 2 * at);
+    }
+}
+
+static uint32_t import(const uint8_t *file, size_t file_bytes,
+                       uint16_t *memory, size_t memory_words, size_t word,
+                       uint32_t *start, uint32_t *end, uint32_t *loop,
+                       uint32_t *samples)
+{
+    static const uint8_t bits[3] = { CR_LPE, CR_BLE | CR_LPE,
+                                     CR_LPE | CR_DIR };
+    struct found found = { 0, 0, 0, 0, 0, 0, 0 };
+    const uint8_t *looped;
+    uint32_t first = (uint32_t)(word % BANK_WORDS);
+    uint32_t answer;
+    uint32_t count;
+
+    *start = *end = *loop = *samples = 0;
+    if (memory_words > MOST_MEMORY_WORDS) {
+        return ANSWER_MEMORY_LENGTH;
+    }
+    answer = check_file(file, file_bytes, &found, &looped);
+    if (answer != ANSWER_DONE) {
+        return answer;
+    }
+    count = found.data_bytes / 2;
+    if (word > memory_words || count > memory_words - word ||
+        first + count > BANK_WORDS) {
+        return ANSWER_NO_PLACE;
+    }
+    if (looped != NULL) {
+        uint32_t past = first + long_at(looped + LOOP_END) + 1;
+
+        if (past == BANK_WORDS) {
+            return ANSWER_NO_PLACE;
+        }
+        *start = (first + long_at(looped + LOOP_START)) * WHOLE_SAMPLE;
+        *end = past * WHOLE_SAMPLE;
+        *loop = bits[long_at(looped + LOOP_TYPE)];
+    }
+    copy(memory + word, file + found.data + HEADER_BYTES, count);
+    *samples = count;
+    return ANSWER_DONE;
+}
+
+const struct engine ENGINE = { NAME,  reset,  write,    read,  set_pot,
+                               frame, import, compress, expand };

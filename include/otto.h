@@ -2,22 +2,26 @@
  * libotto: the voice engine of the ES5506, for hosts in C and C++.
  *
  * The engine owns nothing. The host lends a machine record of 663 words to
- * every call, to a frame also sample memory, an output and a place for a
- * number, and to a read a place for a byte; what a call does is fixed by what
- * is lent and nothing else. There is no global state, no allocation, no file
- * and no lock, so any number of records may be in use, and two threads may call
- * at once if neither lends a buffer that the other one's call may change.
- * Sample memory is only read: threads may share it.
+ * every call on a machine, to a frame also sample memory, an output and a
+ * place for a number, and to a read a place for a byte; to an import, which
+ * needs no record, the bytes of a file, sample memory and places for four
+ * numbers. What a call does is fixed by what is lent and nothing else. There
+ * is no global state, no allocation and no lock, and no file is opened, so any
+ * number of records may be in use, and two threads may call at once if neither
+ * lends a buffer that the other one's call may change. A frame only reads
+ * sample memory: threads may share it, but not while one of them imports into
+ * it.
  *
  * Every pointer must be aligned for its type, must point at as many values as
  * the length after it says, or at one where no length comes after it, and must
  * not be null, even where that length is 0. Buffers of one call must not
  * overlap.
  *
- * A call on a record answers 0 or the number of its refusal. It asks in the
- * order in which its refusals are listed below, and a refused call changes no
- * word of the record and no value of the output; a refused otto_read sets its
- * byte to 0, and a refused otto_frame its number of missing words to 0.
+ * A call on a record, and an import, answers 0 or the number of its refusal.
+ * It asks in the order in which its refusals are listed below, and a refused
+ * call changes no word of the record or of sample memory and no value of the
+ * output; a refused otto_read sets its byte to 0, a refused otto_frame its
+ * number of missing words, and a refused otto_import its four numbers.
  */
 #ifndef OTTO_H
 #define OTTO_H
@@ -53,7 +57,7 @@ extern "C" {
 #define OTTO_LOOP_INVALID  23u /* the loop is outside the data, ends before its
                                   start, or is of another type than 0, 1, 2 */
 #define OTTO_NO_PLACE      24u /* the samples would cross the end of memory or
-                                  of a bank, or END would not fit its register */
+                                  of a bank, or END not fit its register */
 
 /* ---- the machine --------------------------------------------------------- */
 
@@ -100,19 +104,19 @@ uint32_t otto_set_pot(uint32_t *record, size_t words, uint32_t pot);
  * 20 bits, -524288 to 524287, in channel order, left before right.
  *
  * *missing is always set: to how many words of sample memory the frame asked
- * for and missed, 0 to 64, and to 0 where the frame is refused. Each voice that
- * is active and runs as the frame begins asks for two: the word that ACCUM is
- * at then, in the voice's bank, and the next, which after the bank's last word
- * is its first. Both count, also where ACCUM is at a whole sample and the next
- * is not heard. A word beyond the lent memory is missing, and sounds as 0. So a
- * number above 0 says that a note reads past the set that is loaded; with
- * memory of four banks it is always 0. A host that does not want the number
- * lends a place for it all the same.
+ * for and missed, 0 to 64, and to 0 where the frame is refused. Each voice
+ * that is active and runs as the frame begins asks for two: the word that
+ * ACCUM is at then, in the voice's bank, and the next, which after the bank's
+ * last word is its first. Both count, also where ACCUM is at a whole sample
+ * and the next is not heard. A word beyond the lent memory is missing, and
+ * sounds as 0. So a number above 0 says that a note reads past the set that is
+ * loaded; with memory of four banks it is always 0. A host that does not want
+ * the number lends a place for it all the same.
  *
  * ACTV, register 11 of pages 0 to 31, is the number of the last active voice;
  * a reset makes it 31. At least five voices must be active, stopped or not, so
- * ACTV must be at least 4. The host may write less than 4, and every other call
- * takes a record that has less.
+ * ACTV must be at least 4. The host may write less than 4, and every other
+ * call takes a record that has less.
  *
  * Refusals: 1, 2, 7, 5, 6.
  */
@@ -129,13 +133,42 @@ uint8_t otto_compress(int16_t sample);
 /* The value of a code. Compressed sample memory has codes in its high bytes. */
 int16_t otto_expand(uint8_t code);
 
-/* ---- WAVE files ----------------------------------------------------------- */
+/* ---- WAVE files ---------------------------------------------------------- */
 
 /* The loop bits of CR, as otto_import gives them. */
-#define OTTO_CR_LPE 0x08u
-#define OTTO_CR_BLE 0x10u
-#define OTTO_CR_DIR 0x40u
+#define OTTO_CR_LPE 0x08u /* the voice loops */
+#define OTTO_CR_BLE 0x10u /* with LPE: there and back */
+#define OTTO_CR_DIR 0x40u /* in reverse */
 
+/*
+ * Imports a RIFF/WAVE file of at most 65,536 bytes, which the host has read or
+ * made: mono, 16-bit PCM. Its samples are written into sample memory from
+ * memory[word] on, and no other word changes. They must lie in one bank of
+ * 2,097,152 words: a voice plays them with that bank, word / 2097152, in bits
+ * 15 and 14 of its CR, and from ACCUM (word % 2097152) * 2048 on.
+ *
+ * *start, *end, *loop and *samples are always set. *samples is the number of
+ * samples. The other three are what a voice needs for the file's loop, to be
+ * written as they are: START and END, which count from the bank's first word,
+ * and the loop bits of CR:
+ *
+ *   type 0, one-directional               OTTO_CR_LPE
+ *   type 1, there and back                OTTO_CR_LPE | OTTO_CR_BLE
+ *   type 2, one-directional, in reverse   OTTO_CR_LPE | OTTO_CR_DIR
+ *
+ * END is one whole sample past the last one of the loop, so a loop of n
+ * samples has a period of just n samples (there and back 2n), and the note is
+ * in tune. Where the file has no loop these three are 0; where the call is
+ * refused all four are.
+ *
+ * Chunks may stand in any order. Those of other names are skipped, and what
+ * stands after the RIFF length is not looked at. Of the sampler chunks the
+ * first counts, and of its loops the first; the loop's fraction and its number
+ * of rounds are not looked at, nor is the file's sample rate: the voice's FC
+ * is the host's.
+ *
+ * Refusals: 5, 20, 21, 22, 23, 24.
+ */
 uint32_t otto_import(const uint8_t *file, size_t file_bytes, uint16_t *memory,
                      size_t memory_words, size_t word, uint32_t *start,
                      uint32_t *end, uint32_t *loop, uint32_t *samples);

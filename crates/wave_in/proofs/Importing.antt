@@ -12,7 +12,6 @@ use lib.ListN.{length}
 use Rattle.numbers.proofs.Tests.{neither}
 use Rattle.answer.specs.Answer.{isDone}
 use Rattle.answer.specs.declared.Answer.{Answer}
-use Rattle.answer.specs.declared.Answer.the-variants.{MemoryLength, FileBroken, ChunkCount, SampleFormat, LoopInvalid, NoPlace}
 use Rattle.answer.proofs.Refusals.{none-holds}
 use Rattle.machine.specs.Words.{voiceRange, END}
 use Rattle.layout.specs.Parts.{withPart}
@@ -22,7 +21,7 @@ use Rattle.chunks.specs.declared.Chunk.{Chunk}
 use Rattle.chunks.proofs.Named.{Each, each-named}
 use Rattle.wave.specs.Wave.{firstOf, formatOf, dataOf, countOf, samplesOf, isMono16, loopOf, isBroken}
 use Rattle.wave_in.specs.Registers.{startOf, endOf}
-use Rattle.wave_in.specs.Import.{isMiscounted, isOtherFormat, isOutside, hasNoPlace, importAnswer, refusedBy, takenAt, imported, importMemory, Imports}
+use Rattle.wave_in.specs.Import.{isMiscounted, isOtherFormat, isOutside, hasNoPlace, importTests, importAnswer, refusedBy, takenAt, imported, importMemory, Imports}
 use Rattle.wave_in.specs.Steps.{settledOf, Placeable}
 use Rattle.wave.specs.Parse.{InFile}
 use Rattle.wave_in.specs.declared.Imported.{Imported}
@@ -72,15 +71,7 @@ module _ (file : List ℕ) (room word : ℕ) where
   pub importable : isDone (importAnswer file room word) ≡ true → Importable
   unfolding importAnswer
   importable h =
-      let n = none-holds
-      ((tooManyWords room, MemoryLength)
-      ∷ (isBroken file, FileBroken)
-      ∷ (isMiscounted (chunksOf file), ChunkCount)
-      ∷ (isOtherFormat file (chunksOf file), SampleFormat)
-      ∷ (isOutside count (loopOf file (chunksOf file)), LoopInvalid)
-      ∷ (hasNoPlace room word count (loopOf file (chunksOf file)), NoPlace)
-      ∷ [])
-      (refl, (refl, (refl, (refl, (refl, (refl, tt)))))) h in
+      let n = none-holds (importTests file room word) (refl, (refl, (refl, (refl, (refl, (refl, tt)))))) h in
       record { small = n .0; unbroken = n .1 .0; counted = n .1 .1 .0; format = n .1 .1 .1 .0; inside = n .1 .1 .1 .1 .0; place = n .1 .1 .1 .1 .1 .0 }
 
 first-in : (file : List ℕ) (cs : List Chunk) → Each (InFile file) cs → InFile file (firstOf cs)

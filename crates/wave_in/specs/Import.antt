@@ -41,19 +41,21 @@ isOutside count (Present kind start last) = leb count last || (ltb last start ||
 unfoldable pub hasNoPlace : ℕ → ℕ → ℕ → Loop → Bool
 hasNoPlace room word count l = ltb room (word + count) || (ltb BANK_WORDS (word % BANK_WORDS + count) || leb (voiceRange END) (endOf word l))
 
--- in their order
-unfoldable pub importAnswer : List ℕ → ℕ → ℕ → Answer
-importAnswer file room word =
+-- all of them, in their order
+abbrev pub importTests : List ℕ → ℕ → ℕ → List (Bool × Answer)
+importTests file room word =
     let cs = chunksOf file in
     let count = countOf (dataOf cs) in
-    firstRefusal
-    ((tooManyWords room, MemoryLength)
+    (tooManyWords room, MemoryLength)
     ∷ (isBroken file, FileBroken)
     ∷ (isMiscounted cs, ChunkCount)
     ∷ (isOtherFormat file cs, SampleFormat)
     ∷ (isOutside count (loopOf file cs), LoopInvalid)
     ∷ (hasNoPlace room word count (loopOf file cs), NoPlace)
-    ∷ [])
+    ∷ []
+
+unfoldable pub importAnswer : List ℕ → ℕ → ℕ → Answer
+importAnswer file room word = firstRefusal (importTests file room word)
 
 -- ---- what is answered
 
