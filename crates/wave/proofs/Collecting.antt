@@ -14,10 +14,10 @@ use Rattle.chunks.specs.declared.Reach.the-variants.{Past, Whole}
 use Rattle.chunks.proofs.Reached.{was-past, was-whole}
 use Rattle.chunks.proofs.Row.{whole-before, goes-on, no-chunk, one-chunk}
 use Rattle.wave.specs.Wave.{isShort, anyShort}
-use Rattle.wave.specs.Parse.{foundOf, noneFound, withChunk, collectedOf}
+use Rattle.wave.specs.Parse.{foundOf, withChunk, collectedOf}
 use Rattle.wave.specs.declared.Found.{Found}
 use Rattle.wave.specs.declared.Parsed.the-variants.{Broken, Chunks}
-use Rattle.wave.proofs.Keeping.{found-more, none-found}
+use Rattle.wave.proofs.Keeping.{found-more}
 
 -- ---- short format chunks
 
@@ -57,13 +57,13 @@ unfolding joined collectedOf
 short-joined cs broken h = refl
 short-joined cs (chunks ds) h = rw (short-append cs ds, h)
 
-pub begun : (file : List ℕ) (end : ℕ) (f : Found) → f ≡ noneFound → FIRST_CHUNK ≤ end → Progress file end f FIRST_CHUNK
+pub begun : (file : List ℕ) (end : ℕ) (f : Found) → f ≡ foundOf [] → FIRST_CHUNK ≤ end → Progress file end f FIRST_CHUNK
 unfolding anyShort
 begun file end f e h = record {
   done = [];
   left = end;
   so-far = none-joined (chunksFrom end file end FIRST_CHUNK);
-  keeps = e ∙ none-found;
+  keeps = e;
   full = refl;
   enough = omega arith;
   within = h;

@@ -13,12 +13,12 @@ use Rattle.chunks.specs.declared.Chunk.{Chunk}
 use Rattle.chunks.proofs.Headed.{headed-within}
 use Rattle.chunks.proofs.Row.{read-in-row}
 use Rattle.chunks.proofs.Named.{Each, Before, row-before, each-named}
-use Rattle.wave.specs.Wave.{anyShort, anyCut, isBroken}
-use Rattle.wave.specs.Parse.{foundOf, anyCutOf, collectedOf, parsedOf, InFile, OfKept}
+use Rattle.wave.specs.Wave.{firstOf, anyShort, anyCut, isBroken}
+use Rattle.wave.specs.Parse.{foundOf, anyCutOf, collectedOf, parsedOf, InFile}
 use Rattle.wave.specs.declared.Found.{Found}
 use Rattle.wave.specs.declared.Parsed.{Parsed}
 use Rattle.wave.specs.declared.Parsed.the-variants.{Broken, Chunks}
-use Rattle.wave.proofs.Keeping.{kept-cut, kept-each}
+use Rattle.wave.proofs.Keeping.{kept-cut}
 
 -- ---- what the pass came to
 
@@ -74,9 +74,14 @@ within-file : (file : List ℕ) (end : ℕ) → end ≤ length file → (cs : Li
 within-file file end h [] e = tt
 within-file file end h (c ∷ cs) e = (omega arith, within-file file end h cs (e .1))
 
--- so each lies in the file
+-- so each lies in the file, and the first of some
 pub each-in-file : (file : List ℕ) → InFileRow file → Each (InFile file) (chunksOf file)
 each-in-file file r = within-file file (riffEnd file) (r .within) (chunksOf file) (row-before file (riffEnd file) FIRST_CHUNK (chunksOf file) (r .row))
+
+pub first-in : (file : List ℕ) (cs : List Chunk) → Each (InFile file) cs → InFile file (firstOf cs)
+unfolding firstOf
+first-in file [] e = omega arith
+first-in file (c ∷ cs) e = e .0
 
 -- ---- the answers
 
@@ -102,10 +107,10 @@ module _ (file : List ℕ) where
       pub found-is : f ≡ foundOf (chunksOf file)
       found-is = came-found (reading file) r f found whole-pass .1 .1
 
-      pub sampler-in : OfKept (InFile file) (f .sampler)
+      pub sampler-in : InFile file (f .sampler .first)
       sampler-in =
           let w = came-found (reading file) r f found whole-pass in
-          rw found-is (kept-each (InFile file) (named SAMPLER (chunksOf file)) (each-named (InFile file) SAMPLER (chunksOf file) (each-in-file file (read-row file (w .0)))))
+          rw found-is (first-in file (named SAMPLER (chunksOf file)) (each-named (InFile file) SAMPLER (chunksOf file) (each-in-file file (read-row file (w .0)))))
 
       pub sampler-cut : anyCutOf file (f .sampler) ≡ true → Broken ≡ parsedOf file
       unfolding isBroken

@@ -4,11 +4,13 @@
 //
 // Time: a round of the pass goes on by eight bytes or more, so a file of 65,536 bytes has at most 8,190. There is no other loop.
 ghost use mathlib.Core.Path.{_≡_};
+ghost use mathlib.Core.Bool.{false};
+ghost use mathlib.Core.List.{[]};
 ghost use Prim.Native.Nat.{_≤_};
 ghost use lib.ListN.{length};
 ghost use Rattle.chunks.specs.Chunks.{chunksFrom, FIRST_CHUNK as Chunks·FIRST_CHUNK};
 ghost use Rattle.wave.specs.Wave.{isShort, isMono16, isCut, loopIn, FORMAT-BYTES};
-ghost use Rattle.wave.specs.Parse.{again as Parse·again, keep as Parse·keep, noneFound, withChunk, collectedOf, parsedOf, anyCutOf, loopOfKept, InFile, Uncut, OfKept};
+ghost use Rattle.wave.specs.Parse.{keptOf, keep as Parse·keep, foundOf, isOther, withChunk, miscounted, collectedOf, parsedOf, anyCutOf, loopOfKept, InFile};
 use chunks::Chunk;
 use chunks::Opened;
 use chunks::Reach;
@@ -27,11 +29,10 @@ pub enum Loop {
     Present { kind: u32, start: u32, last: u32 },
 }
 
-// What is kept of the chunks of a name: the first, and whether it is alone.
-pub enum Kept {
-    Nothing,
-    Once(Chunk),
-    Again(Chunk),
+// What is kept of the chunks of a name: how many they are, where 2 stands for more as well, and the first.
+pub struct Kept {
+    pub count: usize,
+    pub first: Chunk,
 }
 
 // What one pass keeps. (The data chunk is `sound`.)
@@ -93,18 +94,35 @@ fn is_short(c: Chunk) -> bool
 // ---- what is kept of the chunks
 
 fn nothing() -> Found
-    ensures { λ r. ⌜ r ≡ noneFound ⌝ }
+    ensures { λ r. ⌜ r ≡ foundOf [] ⌝ }
 {
     Found {
-        format: Kept::Nothing,
-        sound: Kept::Nothing,
-        sampler: Kept::Nothing,
+        format: none(),
+        sound: none(),
+        sampler: none(),
     }
 }
 
+fn none() -> Kept
+    ensures { λ r. ⌜ r ≡ keptOf [] ⌝ }
+{
+    Kept {
+        count: 0,
+        first: Chunk {
+            name: 0,
+            place: 0,
+            size: 0,
+        },
+    }
+}
+
+// A chunk of another name is passed by first: then nothing of what is kept is moved.
 fn with_chunk(c: Chunk, f: Found) -> Found
     ensures { λ r. ⌜ r ≡ withChunk c f ⌝ }
 {
+    if is_other(c.name) {
+        return f;
+    }
     let format = f.format;
     let sound = f.sound;
     let sampler = f.sampler;
@@ -115,24 +133,31 @@ fn with_chunk(c: Chunk, f: Found) -> Found
     }
 }
 
+fn is_other(name: u32) -> bool
+    ensures { λ r. ⌜ r ≡ isOther name ⌝ }
+{
+    (name != chunks::format()) & ((name != chunks::data()) & (name != chunks::sampler()))
+}
+
 // What is kept of the chunks of a name, with one more chunk of any name.
 fn keep(name: u32, c: Chunk, k: Kept) -> Kept
     ensures { λ r. ⌜ r ≡ Parse·keep name c k ⌝ }
 {
-    if c.name == name {
-        return again(c, k);
+    if c.name != name {
+        return k;
     }
-    k
+    if k.count == 0 {
+        return Kept { count: 1, first: c };
+    }
+    let first = k.first;
+    Kept { count: 2, first }
 }
 
-fn again(c: Chunk, k: Kept) -> Kept
-    ensures { λ r. ⌜ r ≡ Parse·again c k ⌝ }
+// Whether format and data are not there just once each.
+pub fn is_miscounted(f: Found) -> bool
+    ensures { λ r. ⌜ r ≡ miscounted f ⌝ }
 {
-    match k {
-        Kept::Nothing => Kept::Once(c),
-        Kept::Once(first) => Kept::Again(first),
-        Kept::Again(first) => Kept::Again(first),
-    }
+    !((f.format.count == 1) & (f.sound.count == 1))
 }
 
 // ---- the format
@@ -150,15 +175,13 @@ pub fn is_mono16(file: &[u8], c: Chunk) -> bool
 
 // ---- the sampler
 
+// The first sampler chunk, where there is one, has less than it must.
 fn any_cut(file: &[u8], k: Kept) -> bool
-    requires { ⌜ OfKept (InFile (now file)) k ⌝ }
+    requires { ⌜ InFile (now file) (k .first) ⌝ }
     ensures { λ r. ⌜ r ≡ anyCutOf (now (file .entry)) k ⌝ }
 {
-    match k {
-        Kept::Nothing => false,
-        Kept::Once(c) => is_cut(file, c),
-        Kept::Again(c) => is_cut(file, c),
-    }
+    let first = k.first;
+    (k.count != 0) & is_cut(file, first)
 }
 
 fn is_cut(file: &[u8], c: Chunk) -> bool
@@ -173,18 +196,20 @@ fn is_cut(file: &[u8], c: Chunk) -> bool
 }
 
 pub fn first_loop(file: &[u8], k: Kept) -> Loop
-    requires { ⌜ OfKept (Uncut (now file)) k ⌝ }
+    requires { ⌜ InFile (now file) (k .first) ⌝ }
+    requires { ⌜ anyCutOf (now file) k ≡ false ⌝ }
     ensures { λ r. ⌜ r ≡ loopOfKept (now (file .entry)) k ⌝ }
 {
-    match k {
-        Kept::Nothing => Loop::Absent,
-        Kept::Once(c) => loop_in(file, c),
-        Kept::Again(c) => loop_in(file, c),
+    if k.count == 0 {
+        return Loop::Absent;
     }
+    let first = k.first;
+    loop_in(file, first)
 }
 
 fn loop_in(file: &[u8], c: Chunk) -> Loop
-    requires { ⌜ Uncut (now file) c ⌝ }
+    requires { ⌜ InFile (now file) c ⌝ }
+    requires { ⌜ isCut (now file) c ≡ false ⌝ }
     ensures { λ r. ⌜ r ≡ loopIn (now (file .entry)) c ⌝ }
 {
     let place = c.place;

@@ -3,7 +3,7 @@
 -- their registers; the promise of each. Assumes nothing.
 use mathlib.Core.Path.{_≡_, refl, _∙_}
 use mathlib.Core.Bool.{Bool, true, false, cond, not, _||_}
-use mathlib.Core.List.{List, [], _∷_}
+use mathlib.Core.List.{List}
 use Prim.Native.Nat.{ℕ, _+_, _*_, _/_, _%_, _≤_, _<_}
 use native.Mathlib.Omega.{arith}
 use borrow.Author.Tests.{ltb-false, leb-false, eqb-false}
@@ -16,10 +16,9 @@ use Rattle.answer.proofs.Refusals.{none-holds}
 use Rattle.machine.specs.Words.{voiceRange, END}
 use Rattle.layout.specs.Parts.{withPart}
 use Rattle.sample.specs.Sample.{BANK_WORDS, tooManyWords}
-use Rattle.chunks.specs.Chunks.{chunksOf, named, DATA}
+use Rattle.chunks.specs.Chunks.{chunksOf, DATA}
 use Rattle.chunks.specs.declared.Chunk.{Chunk}
-use Rattle.chunks.proofs.Named.{Each, each-named}
-use Rattle.wave.specs.Wave.{firstOf, formatOf, dataOf, countOf, samplesOf, isMono16, loopOf, isBroken}
+use Rattle.wave.specs.Wave.{formatOf, dataOf, countOf, samplesOf, isMono16, loopOf, isBroken}
 use Rattle.wave_in.specs.Registers.{startOf, endOf}
 use Rattle.wave_in.specs.Import.{isMiscounted, isOtherFormat, isOutside, hasNoPlace, importTests, importAnswer, refusedBy, takenAt, imported, importMemory, Imports}
 use Rattle.wave_in.specs.Steps.{settledOf, Placeable}
@@ -29,8 +28,7 @@ use Rattle.wave.specs.declared.Loop.{Loop}
 use Rattle.wave.specs.declared.Loop.the-variants.{Absent, Present}
 use Rattle.wave_in.specs.declared.Settled.{Settled}
 use Rattle.wave_in.specs.declared.Settled.the-variants.{Refused, Taken}
-use Rattle.wave.proofs.Parsing.{each-in-file}
-use Rattle.wave.proofs.Sound.{not-broken}
+use Rattle.wave.proofs.Sound.{not-broken, named-in}
 
 -- ---- what was settled
 
@@ -74,19 +72,12 @@ module _ (file : List ℕ) (room word : ℕ) where
       let n = none-holds (importTests file room word) (refl, (refl, (refl, (refl, (refl, (refl, tt)))))) h in
       record { small = n .0; unbroken = n .1 .0; counted = n .1 .1 .0; format = n .1 .1 .1 .0; inside = n .1 .1 .1 .1 .0; place = n .1 .1 .1 .1 .1 .0 }
 
-first-in : (file : List ℕ) (cs : List Chunk) → Each (InFile file) cs → InFile file (firstOf cs)
-unfolding firstOf
-first-in file [] e = omega arith
-first-in file (c ∷ cs) e = e .0
-
 even : (n : ℕ) → (n % 2 ≡ 1 → ⊥) → n ≡ 2 * (n / 2)
 even n h = omega arith
 
 module _ {file : List ℕ} {room word : ℕ} (p : Importable file room word) where
   data-in-file : InFile file (dataOf (chunksOf file))
-  data-in-file =
-      let s = not-broken file (p .unbroken) in
-      first-in file (named DATA (chunksOf file)) (each-named (InFile file) DATA (chunksOf file) (each-in-file file (s .row)))
+  data-in-file = named-in file (not-broken file (p .unbroken)) DATA
 
   -- the samples' bytes are in the file, by twos, and the words for them are lent, in one bank
   pub placeable : Placeable file (dataOf (chunksOf file)) room word

@@ -1,11 +1,11 @@
 -- What `wave_in::settle` answers at each test, in their order: first until format and data are there, each once, and then with what is known of them.
 -- Assumes nothing.
-use mathlib.Core.Path.{_≡_, sym, _∙_}
-use mathlib.Core.Bool.{Bool, true, false, not, _||_}
+use mathlib.Core.Path.{_≡_, sym, ap, _∙_}
+use mathlib.Core.Bool.{Bool, true, false, not, _&&_, _||_, and-eq-true-iff}
 use mathlib.Core.List.{List, [], _∷_}
 use Prim.Native.Nat.{ℕ, _/_, _%_, _≤_, _<_}
 use native.Mathlib.Omega.{arith}
-use borrow.Author.Tests.{lt-ltb, le-ltb}
+use borrow.Author.Tests.{lt-ltb, le-ltb, not-false}
 use lib.Dec.{eqb}
 use Rattle.answer.specs.Answer.{firstRefusal}
 use Rattle.answer.specs.declared.Answer.the-variants.{MemoryLength, FileBroken, ChunkCount, SampleFormat, LoopInvalid, NoPlace}
@@ -14,15 +14,14 @@ use Rattle.chunks.specs.Chunks.{chunksOf, named, FORMAT, DATA, SAMPLER}
 use Rattle.chunks.specs.declared.Chunk.{Chunk}
 use Rattle.wave.specs.Wave.{isOnce, isMono16, loopOf, FORMAT-BYTES, isBroken}
 use Rattle.wave_in.specs.Import.{isMiscounted, isOtherFormat, isOutside, hasNoPlace, importAnswer}
-use Rattle.wave.specs.Parse.{keptOf, foundOf, loopOfKept, InFile, Uncut, OfKept}
+use Rattle.wave.specs.Parse.{foundOf, miscounted, anyCutOf, loopOfKept, InFile}
 use Rattle.wave_in.specs.Steps.{settledOf}
 use Rattle.wave.specs.declared.Loop.{Loop}
-use Rattle.wave.specs.declared.Kept.the-variants.{Once}
 use Rattle.wave.specs.declared.Found.{Found}
 use Rattle.wave_in.specs.declared.Settled.{Settled}
 use Rattle.wave_in.specs.declared.Settled.the-variants.{Refused, Taken}
 use Rattle.wave.proofs.Keeping.{kept-once, kept-loop}
-use Rattle.wave.proofs.Sound.{not-broken, format-in, format-full, data-in, sampler-uncut}
+use Rattle.wave.proofs.Sound.{not-broken, named-in, format-full, sampler-uncut}
 
 -- ---- the answers
 
@@ -40,81 +39,82 @@ module _ (file : List ℕ) (room word : ℕ) where
     broken b = rw (le-ltb MOST_MEMORY_WORDS room small, b)
 
     module _ (b : isBroken file ≡ false) where
-      pub no-format : isOnce (named FORMAT (chunksOf file)) ≡ false → Answers (Refused ChunkCount)
-      unfolding settledOf importAnswer isMiscounted
-      no-format f = rw (le-ltb MOST_MEMORY_WORDS room small, b, f)
+      pub miscounted-so : isMiscounted (chunksOf file) ≡ true → Answers (Refused ChunkCount)
+      unfolding settledOf importAnswer
+      miscounted-so m = rw (le-ltb MOST_MEMORY_WORDS room small, b, m)
 
-      module _ (f : isOnce (named FORMAT (chunksOf file)) ≡ true) where
-        pub no-data : isOnce (named DATA (chunksOf file)) ≡ false → Answers (Refused ChunkCount)
-        unfolding settledOf importAnswer isMiscounted
-        no-data d = rw (le-ltb MOST_MEMORY_WORDS room small, b, f, d)
+-- ---- what was counted
+
+same-count : (cs : List Chunk) → miscounted (foundOf cs) ≡ isMiscounted cs
+unfolding isMiscounted
+same-count cs = rw (kept-once (named FORMAT cs), kept-once (named DATA cs))
+
+once-both : (cs : List Chunk) → isMiscounted cs ≡ false → (isOnce (named FORMAT cs) ≡ true) × (isOnce (named DATA cs) ≡ true)
+unfolding isMiscounted
+once-both cs h = and-eq-true-iff (isOnce (named FORMAT cs)) (isOnce (named DATA cs)) .0 (not-false (isOnce (named FORMAT cs) && isOnce (named DATA cs)) h)
+
+pub count-is : (file : List ℕ) (f : Found) (t : Bool) → f ≡ foundOf (chunksOf file) → t ≡ miscounted f → isMiscounted (chunksOf file) ≡ t
+count-is file f t e m = sym (m ∙ ap miscounted e ∙ same-count (chunksOf file))
 
 -- ---- the answers once format and data are there, each once
 
-pub record Ready (file : List ℕ) (room : ℕ) (found : Found) (format sound : Chunk) : Type 0 where
+pub record Ready (file : List ℕ) (room : ℕ) (found : Found) : Type 0 where
   pub small : room ≤ MOST_MEMORY_WORDS
   pub unbroken : isBroken file ≡ false
   pub found-is : found ≡ foundOf (chunksOf file)
-  pub format-is : keptOf (named FORMAT (chunksOf file)) ≡ Once format
-  pub data-is : keptOf (named DATA (chunksOf file)) ≡ Once sound
+  pub counted : isMiscounted (chunksOf file) ≡ false
 
-module _ {file : List ℕ} {room : ℕ} {found : Found} {format sound : Chunk} (g : Ready file room found format sound) where
+module _ {file : List ℕ} {room : ℕ} {found : Found} (g : Ready file room found) where
   -- what is asked before the chunks are read
-  pub format-ready : InFile file format × (FORMAT-BYTES ≤ format .size)
+  pub format-ready : InFile file (found .format .first) × (FORMAT-BYTES ≤ found .format .first .size)
   format-ready =
       let s = not-broken file (g .unbroken) in
-      (rw (g .format-is) at (format-in file s), rw (g .format-is) at (format-full file s))
+      rw (g .found-is) (named-in file s FORMAT, format-full file s (once-both (chunksOf file) (g .counted) .0))
 
-  pub sampler-ready : OfKept (Uncut file) (found .sampler)
-  sampler-ready = rw (g .found-is) (sampler-uncut file (not-broken file (g .unbroken)))
+  pub sampler-ready : InFile file (found .sampler .first) × (anyCutOf file (found .sampler) ≡ false)
+  sampler-ready =
+      let s = not-broken file (g .unbroken) in
+      rw (g .found-is) (named-in file s SAMPLER, sampler-uncut file s)
 
-  pub data-small : sound .size / 2 ≤ 65536
+  pub data-small : found .sound .first .size / 2 ≤ 65536
   data-small =
       let s = not-broken file (g .unbroken) in
-      let i : InFile file sound = rw (g .data-is) at (data-in file s) in
+      let i : InFile file (found .sound .first) = rw (g .found-is) (named-in file s DATA) in
       let f = s .row .few in
       omega arith
 
-  module _ (word : ℕ) (mono : Bool) (is-mono : mono ≡ isMono16 file format) where
-    same-format : (not mono || eqb (sound .size % 2) 1) ≡ isOtherFormat file (chunksOf file)
+  module _ (word : ℕ) (mono : Bool) (is-mono : mono ≡ isMono16 file (found .format .first)) where
+    same-format : (not mono || eqb (found .sound .first .size % 2) 1) ≡ isOtherFormat file (chunksOf file)
     unfolding isOtherFormat
-    same-format =
-        let f = kept-once (named FORMAT (chunksOf file)) format (g .format-is) in
-        let d = kept-once (named DATA (chunksOf file)) sound (g .data-is) in
-        rw (f .1, d .1, is-mono)
+    same-format = rw (is-mono, g .found-is)
 
     -- the tests so far: the lent memory, the file, the two chunks
-    so-far : (t : Bool) → (not mono || eqb (sound .size % 2) 1) ≡ t → importAnswer file room word
+    so-far : (t : Bool) → (not mono || eqb (found .sound .first .size % 2) 1) ≡ t → importAnswer file room word
         ≡ firstRefusal
         ((t, SampleFormat)
-        ∷ (isOutside (sound .size / 2) (loopOf file (chunksOf file)), LoopInvalid)
-        ∷ (hasNoPlace room word (sound .size / 2) (loopOf file (chunksOf file)), NoPlace)
+        ∷ (isOutside (found .sound .first .size / 2) (loopOf file (chunksOf file)), LoopInvalid)
+        ∷ (hasNoPlace room word (found .sound .first .size / 2) (loopOf file (chunksOf file)), NoPlace)
         ∷ [])
-    unfolding importAnswer isMiscounted
-    so-far t e =
-        let f = kept-once (named FORMAT (chunksOf file)) format (g .format-is) in
-        let d = kept-once (named DATA (chunksOf file)) sound (g .data-is) in
-        rw (le-ltb MOST_MEMORY_WORDS room (g .small), g .unbroken, f .0, d .0, ← same-format, e, d .1)
+    unfolding importAnswer
+    so-far t e = rw (le-ltb MOST_MEMORY_WORDS room (g .small), g .unbroken, g .counted, ← same-format, e, g .found-is)
 
-    pub other-format : (not mono || eqb (sound .size % 2) 1) ≡ true → Refused SampleFormat ≡ settledOf file room word
+    pub other-format : (not mono || eqb (found .sound .first .size % 2) 1) ≡ true → Refused SampleFormat ≡ settledOf file room word
     unfolding settledOf
     other-format o = rw (so-far true o)
 
-    module _ (o : (not mono || eqb (sound .size % 2) 1) ≡ false) (l : Loop) (first : l ≡ loopOfKept file (found .sampler)) where
+    module _ (o : (not mono || eqb (found .sound .first .size % 2) 1) ≡ false) (l : Loop) (first : l ≡ loopOfKept file (found .sampler)) where
       its-loop : loopOf file (chunksOf file) ≡ l
       its-loop = sym (first ∙ rw (g .found-is) (kept-loop file (named SAMPLER (chunksOf file))))
 
-      pub outside : isOutside (sound .size / 2) l ≡ true → Refused LoopInvalid ≡ settledOf file room word
+      pub outside : isOutside (found .sound .first .size / 2) l ≡ true → Refused LoopInvalid ≡ settledOf file room word
       unfolding settledOf
       outside i = rw (so-far false o, its-loop, i)
 
-      module _ (i : isOutside (sound .size / 2) l ≡ false) where
-        pub no-place : hasNoPlace room word (sound .size / 2) l ≡ true → Refused NoPlace ≡ settledOf file room word
+      module _ (i : isOutside (found .sound .first .size / 2) l ≡ false) where
+        pub no-place : hasNoPlace room word (found .sound .first .size / 2) l ≡ true → Refused NoPlace ≡ settledOf file room word
         unfolding settledOf
         no-place p = rw (so-far false o, its-loop, i, p)
 
-        pub fine : hasNoPlace room word (sound .size / 2) l ≡ false → Taken sound l ≡ settledOf file room word
+        pub fine : hasNoPlace room word (found .sound .first .size / 2) l ≡ false → Taken (found .sound .first) l ≡ settledOf file room word
         unfolding settledOf
-        fine p =
-            let d = kept-once (named DATA (chunksOf file)) sound (g .data-is) in
-            rw (so-far false o, its-loop, i, p, d .1)
+        fine p = rw (so-far false o, its-loop, i, p, g .found-is)

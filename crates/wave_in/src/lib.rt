@@ -14,7 +14,6 @@ ghost use Rattle.wave_in.specs.Import.{isOutside, hasNoPlace, refusedBy,
 ghost use Rattle.wave_in.specs.Steps.{settledOf, Placeable};
 use answer::Answer;
 use chunks::Chunk;
-use wave::Kept;
 use wave::Loop;
 use wave::Parsed;
 
@@ -85,14 +84,11 @@ fn settle(file: &[u8], room: usize, word: usize) -> Settled
     let Parsed::Chunks(found) = wave::parse(file) else {
         return Settled::Refused(Answer::FileBroken);
     };
-    let formats = found.format;
-    let Kept::Once(format) = formats else {
+    if wave::is_miscounted(found) {
         return Settled::Refused(Answer::ChunkCount);
-    };
-    let sounds = found.sound;
-    let Kept::Once(sound) = sounds else {
-        return Settled::Refused(Answer::ChunkCount);
-    };
+    }
+    let format = found.format.first;
+    let sound = found.sound.first;
     if !wave::is_mono16(file, format) | (sound.size % 2 == 1) {
         return Settled::Refused(Answer::SampleFormat);
     }

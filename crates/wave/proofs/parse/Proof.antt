@@ -28,15 +28,16 @@ returns-2 c =
 
 any-cut-requires : tie.Need-any-cut-requires
 any-cut-requires c κs =
-    let q = c .before .before .before in
+    let f = c .before .before in
+    let q = f .before .before in
     let e = q .before .before in
     let o = e .before .before in
     let h = was-upto _ (o .open .result) (o .open .ensures) _ (e .end .given .1) in
-    sampler-in _ (h .0) _ (h .1) _ (q .collect .ensures) _ (c .before .found .given .1)
+    sampler-in _ (h .0) _ (h .1) _ (q .collect .ensures) _ (f .found .given .1)
 
 returns-3 : tie.Need-returns-3
 returns-3 c =
-    let f = c .before .before .before in
+    let f = c .before .before .before .before in
     let q = f .before .before in
     let e = q .before .before in
     let o = e .before .before in
@@ -45,7 +46,7 @@ returns-3 c =
 
 returns-4 : tie.Need-returns-4
 returns-4 c =
-    let f = c .before .before .before in
+    let f = c .before .before .before .before in
     let q = f .before .before in
     let e = q .before .before in
     let o = e .before .before in
