@@ -176,10 +176,10 @@ static void set_missing(uint32_t words)
 }
 
 /* All that costs most, at once in every voice: two high passes, codes, the last
-   word of the memory, whose next is missing, an event with an interrupt while
-   none waits, and four fast ramps in a frame where slow ones rest. The loop
-   mode and the direction are given: they change the cost by little, and which
-   of them costs most depends on the engine. */
+   word of a bank, which is missing while the next, the bank's first, is there,
+   an event with an interrupt while none waits, and four fast ramps in a frame
+   where slow ones rest. The loop mode and the direction are given: they change
+   the cost by little, and which of them costs most depends on the engine. */
 static void set_worst(uint32_t mode)
 {
     set_voices(0, MOST_ECOUNT);
@@ -189,7 +189,7 @@ static void set_worst(uint32_t mode)
         voice[VOICE_CR] = CR_IRQE | CR_CMPD | v % 6 * CR_CA0 | mode;
         voice[VOICE_K1RAMP] &= ~1u;
         voice[VOICE_K2RAMP] &= ~1u;
-        set_loop(voice, (NOISE_WORDS - 1) * 2048u, 128 * (1 + v % 15), 5);
+        set_loop(voice, (BANK_WORDS - 1) * 2048u, 128 * (1 + v % 15), 5);
     }
     record[WORD_SLOW] = 1;
     record[WORD_IRQV] = NO_INTERRUPT;
@@ -236,11 +236,11 @@ static void must_be_worst(uint32_t mode)
 {
     set_worst(mode);
     for (uint32_t v = 0; v < VOICES; v++) {
-        must(record[v * VOICE_WORDS + VOICE_ACCUM] >> 11 == memory_words - 1,
-             "each voice is at the memory's last word");
+        must(record[v * VOICE_WORDS + VOICE_ACCUM] >> 11 == BANK_WORDS - 1,
+             "each voice is at its bank's last word");
     }
     must_have_events();
-    must(missing == VOICES, "each voice misses the next word");
+    must(missing == VOICES, "each voice misses that word");
     for (uint32_t v = 0; v < VOICES; v++) {
         must(record[v * VOICE_WORDS + VOICE_ECOUNT] == MOST_ECOUNT - 1,
              "each voice's ramps move");
