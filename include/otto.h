@@ -53,7 +53,8 @@ extern "C" {
 #define OTTO_FILE_BROKEN   20u /* too long, no RIFF/WAVE, or a part of it runs
                                   past the file or past its chunk */
 #define OTTO_CHUNK_COUNT   21u /* no format or data chunk, or two of one */
-#define OTTO_SAMPLE_FORMAT 22u /* not mono 16-bit PCM, or an odd data length */
+#define OTTO_SAMPLE_FORMAT 22u /* the samples are not 16-bit PCM of one channel,
+                                  or the last one lacks a byte */
 #define OTTO_LOOP_INVALID  23u /* the loop is outside the data, ends before its
                                   start, or is of another type than 0, 1, 2 */
 #define OTTO_NO_PLACE      24u /* the samples would cross the end of memory or
@@ -145,21 +146,30 @@ int16_t otto_expand(uint8_t code);
  * made: mono, 16-bit PCM. Its samples are written into sample memory from
  * memory[word] on, and no other word changes. They must lie in one bank of
  * 2,097,152 words: a voice plays them with that bank, word / 2097152, in bits
- * 15 and 14 of its CR, and from ACCUM (word % 2097152) * 2048 on.
+ * 15 and 14 of its CR, and with CMPD 0.
  *
- * *start, *end, *loop and *samples are always set. *samples is the number of
- * samples. The other three are what a voice needs for the file's loop, to be
- * written as they are: START and END, which count from the bank's first word,
- * and the loop bits of CR:
+ * *start, *end, *loop and *samples, four places of their own, are always set,
+ * to 0 where the call is refused. *samples is the number of samples. The other
+ * three are what a voice needs for the file's loop: START and END, which count
+ * from the bank's first word, and the loop bits of CR. They are register
+ * values, to be written as they are:
  *
  *   type 0, one-directional               OTTO_CR_LPE
  *   type 1, there and back                OTTO_CR_LPE | OTTO_CR_BLE
  *   type 2, one-directional, in reverse   OTTO_CR_LPE | OTTO_CR_DIR
  *
- * END is one whole sample past the last one of the loop, so a loop of n
- * samples has a period of just n samples (there and back 2n), and the note is
- * in tune. Where the file has no loop these three are 0; where the call is
- * refused all four are.
+ * A voice starts at the first sample, ACCUM (word % 2097152) * 2048, and comes
+ * to the loop; in reverse it starts within the loop. END is one whole sample
+ * past the last one of the loop, so a loop of n samples has a period of just n
+ * samples (there and back 2n), where FC is at most n * 2048 and LEI is 0. The
+ * voice also fetches the word at END: between the last sample and END it is
+ * the second of the two that are blended. Where the loop ends with the data,
+ * the import does not write that word: for the loop to close, a host puts the
+ * loop's first sample there. Where memory ends there, the word is missing.
+ *
+ * Where the file has no loop these three are 0, and say nothing of where the
+ * samples are: a host sets START and END itself, such as END (word % 2097152 +
+ * *samples - 1) * 2048, at which a voice with no loop bit stops.
  *
  * Chunks may stand in any order. Those of other names are skipped, and what
  * stands after the RIFF length is not looked at. Of the sampler chunks the

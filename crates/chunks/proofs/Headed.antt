@@ -13,34 +13,34 @@ use Rattle.layout.specs.Bytes.{little4At}
 use Rattle.chunks.specs.Chunks.{RIFF, WAVE, MOST_FILE_BYTES, FIRST_CHUNK, riffLength, riffEnd, isHeaded}
 use Rattle.chunks.specs.Walk.{openedOf}
 use Rattle.chunks.specs.declared.Opened.{Opened}
-use Rattle.chunks.specs.declared.Opened.the-variants.{Broken, Upto}
+use Rattle.chunks.specs.declared.Opened.the-variants.{Unheaded, Upto}
 
 module _ (file : List ℕ) where
-  unheaded : isHeaded file ≡ false → Broken ≡ openedOf file
+  unheaded : isHeaded file ≡ false → Unheaded ≡ openedOf file
   unfolding openedOf
   unheaded e = rw e
 
-  pub too-long : MOST_FILE_BYTES < length file → Broken ≡ openedOf file
+  pub too-long : MOST_FILE_BYTES < length file → Unheaded ≡ openedOf file
   unfolding isHeaded
   too-long h = unheaded (rw (lt-leb (length file) MOST_FILE_BYTES h))
 
   -- where the length leaves no room for "WAVE", or the file is shorter than it says; so where it is shorter than a header
-  pub not-within : riffLength file < 4 → Broken ≡ openedOf file
+  pub not-within : riffLength file < 4 → Unheaded ≡ openedOf file
   unfolding isHeaded
   not-within h = unheaded (rw (lt-leb 4 (riffLength file) h, and-false, and-false, and-false))
 
-  pub past-file : length file < riffEnd file → Broken ≡ openedOf file
+  pub past-file : length file < riffEnd file → Unheaded ≡ openedOf file
   unfolding isHeaded
   past-file h = unheaded (rw (lt-leb (riffEnd file) (length file) h, and-false, and-false, and-false, and-false))
 
-  pub too-short : length file < FIRST_CHUNK → Broken ≡ openedOf file
-  too-short h = cases (riffLength file) 4 (Broken ≡ openedOf file) not-within (λ k. past-file (omega arith))
+  pub too-short : length file < FIRST_CHUNK → Unheaded ≡ openedOf file
+  too-short h = cases (riffLength file) 4 (Unheaded ≡ openedOf file) not-within (λ k. past-file (omega arith))
 
-  pub not-riff : (little4At file 0 ≡ RIFF → ⊥) → Broken ≡ openedOf file
+  pub not-riff : (little4At file 0 ≡ RIFF → ⊥) → Unheaded ≡ openedOf file
   unfolding isHeaded
   not-riff h = unheaded (rw (ne-eqb (little4At file 0) RIFF h, and-false))
 
-  pub not-wave : (little4At file 8 ≡ WAVE → ⊥) → Broken ≡ openedOf file
+  pub not-wave : (little4At file 8 ≡ WAVE → ⊥) → Unheaded ≡ openedOf file
   unfolding isHeaded
   not-wave h = unheaded (rw (ne-eqb (little4At file 8) WAVE h, and-false, and-false))
 
@@ -52,18 +52,18 @@ module _ (file : List ℕ) where
 
 -- ---- what an answer tells
 
-broken-by : (t : Bool) (n : ℕ) (r : Opened) → r ≡ Broken → r ≡ cond t (Upto n) Broken → t ≡ false
-broken-by true n r e f = absurd (let z : _≡_ {A = ℕ} 0 1 = cc in omega arith)
-broken-by false n r e f = refl
+unheaded-by : (t : Bool) (n : ℕ) (r : Opened) → r ≡ Unheaded → r ≡ cond t (Upto n) Unheaded → t ≡ false
+unheaded-by true n r e f = absurd (let z : _≡_ {A = ℕ} 0 1 = cc in omega arith)
+unheaded-by false n r e f = refl
 
-upto-by : (t : Bool) (n : ℕ) (r : Opened) (end : ℕ) → r ≡ Upto end → r ≡ cond t (Upto n) Broken → (t ≡ true) × (end ≡ n)
+upto-by : (t : Bool) (n : ℕ) (r : Opened) (end : ℕ) → r ≡ Upto end → r ≡ cond t (Upto n) Unheaded → (t ≡ true) × (end ≡ n)
 upto-by true n r end e f = (refl, cc)
 upto-by false n r end e f = absurd (let z : _≡_ {A = ℕ} 0 1 = cc in omega arith)
 
 module _ (file : List ℕ) (r : Opened) (read : r ≡ openedOf file) where
-  pub was-broken : r ≡ Broken → isHeaded file ≡ false
+  pub was-unheaded : r ≡ Unheaded → isHeaded file ≡ false
   unfolding openedOf
-  was-broken e = broken-by (isHeaded file) (riffEnd file) r e read
+  was-unheaded e = unheaded-by (isHeaded file) (riffEnd file) r e read
 
   pub was-upto : (end : ℕ) → r ≡ Upto end → (isHeaded file ≡ true) × (end ≡ riffEnd file)
   unfolding openedOf

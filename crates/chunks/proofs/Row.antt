@@ -1,5 +1,5 @@
 -- A file is read as some chunks exactly where they stand in a row up to the end; so how many chunks are allowed for does not matter.
--- In order: where a whole chunk ends; one step of the reading; from the reading to the row, and back; what chunks in a row are: within the end, and
+-- In order: where a whole chunk ends; one step of the listing; from the listing to the row, and back; what chunks in a row are: within the end, and
 -- few. Assumes nothing.
 use mathlib.Core.Path.{_≡_, refl, _∙_}
 use mathlib.Core.Bool.{true, cond, and-eq-true-iff}
@@ -11,7 +11,7 @@ use borrow.Author.Tests.{lt-ltb, le-ltb, leb-true}
 use lib.Dec.{leb, ltb}
 use lib.ListN.{length}
 use Rattle.numbers.proofs.Tests.{split, cases}
-use Rattle.chunks.specs.Chunks.{Reading, broken, chunks, before, chunksFrom, chunkAt, next, isWhole, HEADER_BYTES}
+use Rattle.chunks.specs.Chunks.{Listing, unreadable, chunks, before, chunksFrom, chunkAt, next, isWhole, HEADER_BYTES}
 use Rattle.chunks.specs.Row.{InRow}
 use Rattle.chunks.specs.declared.Chunk.{Chunk}
 
@@ -36,21 +36,21 @@ module _ (file : List ℕ) (end : ℕ) where
   no-chunk (suc n) i h = rw (le-ltb i end h)
 
   pub one-chunk : (n i : ℕ) → i < end → end ≤ i + n
-      → chunksFrom n file end i ≡ cond (isWhole file end i) (before (chunkAt file i) (chunksFrom (n - 1) file end (next (chunkAt file i)))) broken
+      → chunksFrom n file end i ≡ cond (isWhole file end i) (before (chunkAt file i) (chunksFrom (n - 1) file end (next (chunkAt file i)))) unreadable
   unfolding chunksFrom
   one-chunk zero i h k = absurd (omega arith)
   one-chunk (suc n) i h k = rw (lt-ltb i end h, sub-one)
 
-  -- ---- the reading and the row
+  -- ---- the listing and the row
 
-  before-is : (c : Chunk) (r : Reading) (cs : List Chunk) → before c r ≡ chunks cs → (ds : List Chunk) × ((r ≡ chunks ds) × (cs ≡ c ∷ ds))
+  before-is : (c : Chunk) (r : Listing) (cs : List Chunk) → before c r ≡ chunks cs → (ds : List Chunk) × ((r ≡ chunks ds) × (cs ≡ c ∷ ds))
   unfolding before
-  before-is c broken cs e = absurd (let z : _≡_ {A = ℕ} 0 1 = cc in omega arith)
+  before-is c unreadable cs e = absurd (let z : _≡_ {A = ℕ} 0 1 = cc in omega arith)
   before-is c (chunks ds) cs e = (ds, (refl, cc))
 
   -- at a place, where the chunks that are read after the one there are in a row
-  row-here : (i : ℕ) (rest : Reading) (cs : List Chunk) → i ≤ end → ((ds : List Chunk) → isWhole file end i ≡ true → i < end → rest ≡ chunks ds → InRow file end (next (chunkAt file i)) ds)
-      → cond (ltb i end) (cond (isWhole file end i) (before (chunkAt file i) rest) broken) (chunks []) ≡ chunks cs → InRow file end i cs
+  row-here : (i : ℕ) (rest : Listing) (cs : List Chunk) → i ≤ end → ((ds : List Chunk) → isWhole file end i ≡ true → i < end → rest ≡ chunks ds → InRow file end (next (chunkAt file i)) ds)
+      → cond (ltb i end) (cond (isWhole file end i) (before (chunkAt file i) rest) unreadable) (chunks []) ≡ chunks cs → InRow file end i cs
   row-here i rest cs b f e =
       cases i end (InRow file end i cs)
       (λ l. split (InRow file end i cs) (isWhole file end i)
@@ -60,7 +60,7 @@ module _ (file : List ℕ) (end : ℕ) where
       (λ w. absurd (not-chunks cs (rw (lt-ltb i end l, w) at e))))
       (λ l. stop l cs (rw (le-ltb i end l) at e))
     where
-      not-chunks : (cs : List Chunk) → broken ≡ chunks cs → ⊥
+      not-chunks : (cs : List Chunk) → unreadable ≡ chunks cs → ⊥
       not-chunks cs e = let z : _≡_ {A = ℕ} 0 1 = cc in omega arith
 
       stop : end ≤ i → (cs : List Chunk) → chunks [] ≡ chunks cs → InRow file end i cs

@@ -1,4 +1,4 @@
--- A RIFF/WAVE file as its chunks, or broken.
+-- A RIFF/WAVE file as its chunks, or unreadable.
 -- In order: the names; a chunk; the chunks from a place to the end; the file; the chunks of a name. Assumes nothing.
 use Prim.Native.Nat.{ℕ, zero, suc, _+_, _%_}
 use mathlib.Core.Bool.{Bool, true, false, cond, _&&_}
@@ -46,22 +46,22 @@ isWhole file end i = leb (i + HEADER_BYTES) end && leb (next (chunkAt file i)) e
 
 -- ---- the chunks from a place to the end
 
-pub data Reading : Type 0 where
-  broken : Reading
-  chunks : List Chunk → Reading
+pub data Listing : Type 0 where
+  unreadable : Listing
+  chunks : List Chunk → Listing
 
 -- with a chunk before
-unfoldable pub before : Chunk → Reading → Reading
-before c broken = broken
+unfoldable pub before : Chunk → Listing → Listing
+before c unreadable = unreadable
 before c (chunks cs) = chunks (c ∷ cs)
 
 -- One after another, n at most. A chunk takes eight bytes or more, so where n is the end itself none is left out: Row says what these are with
 -- no such number.
-unfoldable pub chunksFrom : ℕ → List ℕ → ℕ → ℕ → Reading
+unfoldable pub chunksFrom : ℕ → List ℕ → ℕ → ℕ → Listing
 chunksFrom zero file end i = chunks []
 chunksFrom (suc n) file end i =
     let rest = before (chunkAt file i) (chunksFrom n file end (next (chunkAt file i))) in
-    cond (ltb i end) (cond (isWhole file end i) rest broken) (chunks [])
+    cond (ltb i end) (cond (isWhole file end i) rest unreadable) (chunks [])
 
 -- ---- the file: "RIFF", a length, "WAVE", and from byte 12 on chunks; the length is that of all after it
 
@@ -75,7 +75,7 @@ abbrev pub riffLength : List ℕ → ℕ
 riffLength file = little4At file 4
 
 abbrev pub riffEnd : List ℕ → ℕ
-riffEnd file = 8 + riffLength file
+riffEnd file = HEADER_BYTES + riffLength file
 
 -- not too long; RIFF, and WAVE within its length; not shorter than that length says
 unfoldable pub isHeaded : List ℕ → Bool
@@ -86,20 +86,20 @@ isHeaded file =
     && (leb 4 (riffLength file)
     && leb (riffEnd file) (length file))))
 
-unfoldable pub reading : List ℕ → Reading
-reading file = cond (isHeaded file) (chunksFrom (riffEnd file) file (riffEnd file) FIRST_CHUNK) broken
+unfoldable pub listing : List ℕ → Listing
+listing file = cond (isHeaded file) (chunksFrom (riffEnd file) file (riffEnd file) FIRST_CHUNK) unreadable
 
-unfoldable pub isUnread : Reading → Bool
-isUnread broken = true
-isUnread (chunks cs) = false
+unfoldable pub isUnreadable : Listing → Bool
+isUnreadable unreadable = true
+isUnreadable (chunks cs) = false
 
--- its chunks; none where it is broken
-unfoldable pub listed : Reading → List Chunk
-listed broken = []
+-- its chunks; none where it is unreadable
+unfoldable pub listed : Listing → List Chunk
+listed unreadable = []
 listed (chunks cs) = cs
 
 abbrev pub chunksOf : List ℕ → List Chunk
-chunksOf file = listed (reading file)
+chunksOf file = listed (listing file)
 
 -- ---- the chunks of a name, in their order
 

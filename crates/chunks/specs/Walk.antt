@@ -4,12 +4,12 @@ use mathlib.Core.List.{List}
 use Prim.Native.Nat.{ℕ}
 use Rattle.chunks.specs.Chunks.{chunkAt, next, isWhole, isHeaded, riffEnd}
 use Rattle.chunks.specs.declared.Opened.{Opened}
-use Rattle.chunks.specs.declared.Opened.the-variants.{Broken, Upto}
+use Rattle.chunks.specs.declared.Opened.the-variants.{Unheaded, Upto}
 use Rattle.chunks.specs.declared.Reach.{Reach}
 use Rattle.chunks.specs.declared.Reach.the-variants.{Past, Whole}
 
 unfoldable pub openedOf : List ℕ → Opened
-openedOf file = cond (isHeaded file) (Upto (riffEnd file)) Broken
+openedOf file = cond (isHeaded file) (Upto (riffEnd file)) Unheaded
 
 unfoldable pub reachOf : List ℕ → ℕ → ℕ → Reach
 reachOf file end i = cond (isWhole file end i) (Whole (chunkAt file i) (next (chunkAt file i))) Past

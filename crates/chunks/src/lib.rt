@@ -24,7 +24,7 @@ pub struct Chunk {
 // What the start of a file comes to.
 pub enum Opened {
     // It is too long, no RIFF/WAVE, or shorter than it says.
-    Broken,
+    Unheaded,
     // Its chunks go up to this byte.
     Upto(usize),
 }
@@ -41,25 +41,25 @@ pub fn open(file: &[u8]) -> Opened
     ensures { λ r. ⌜ r ≡ openedOf (now (file .entry)) ⌝ }
 {
     if MOST_FILE_BYTES < file.len() {
-        return Opened::Broken;
+        return Opened::Unheaded;
     }
     if file.len() < FIRST_CHUNK {
-        return Opened::Broken;
+        return Opened::Unheaded;
     }
     if layout::little4_at(file, 0) != riff() {
-        return Opened::Broken;
+        return Opened::Unheaded;
     }
     if layout::little4_at(file, 8) != wave() {
-        return Opened::Broken;
+        return Opened::Unheaded;
     }
     let size = layout::little4_at(file, 4) as usize;
     if size < 4 {
-        return Opened::Broken;
+        return Opened::Unheaded;
     }
-    if file.len() < 8 + size {
-        return Opened::Broken;
+    if file.len() < HEADER_BYTES + size {
+        return Opened::Unheaded;
     }
-    Opened::Upto(8 + size)
+    Opened::Upto(HEADER_BYTES + size)
 }
 
 // The chunk whose header begins at a place. Its size may be any number of 32 bits, which a sum of 64 holds.

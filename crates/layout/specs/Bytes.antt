@@ -22,6 +22,12 @@ little2At xs i = little (part xs i 2)
 abbrev pub little4At : List ℕ → ℕ → ℕ
 little4At xs i = little (part xs i 4)
 
+abbrev pub big2At : List ℕ → ℕ → ℕ
+big2At xs i = big (part xs i 2)
+
+abbrev pub big4At : List ℕ → ℕ → ℕ
+big4At xs i = big (part xs i 4)
+
 -- the numbers of a list's bytes by twos, in the order that is handed over: `twos little`, `twos big`. A last odd byte is left out.
 unfoldable pub twos : (List ℕ → ℕ) → List ℕ → List ℕ
 twos order [] = []

@@ -2,17 +2,17 @@
 use Prim.Native.Nat.{ℕ, _+_, _*_, _<_}
 use mathlib.Core.Path.{_≡_}
 use mathlib.Core.Bool.{cond}
-use mathlib.Core.List.{List, [], _∷_}
+use mathlib.Core.List.{List}
 use lib.Dec.{eqb}
 use lib.ListN.{getD}
-use Rattle.layout.specs.Bytes.{big}
+use Rattle.layout.specs.Bytes.{big2At, big4At}
 use Rattle.calls.specs.declared.Ask.the-variants.{Reset, Write, Read, SetPot, Frame}
 use Rattle.score.specs.declared.Command.{Command}
 use Rattle.score.specs.declared.Command.the-variants.{Call, Unknown}
 
 -- the first n words of the memory are the score's bytes by twos, the high one first
 abbrev pub Filled : ℕ → List ℕ → List ℕ → Type 0
-Filled n score memory = (k : ℕ) → k < n → getD memory k 0 ≡ big (getD score (2 * k) 0 ∷ getD score (2 * k + 1) 0 ∷ [])
+Filled n score memory = (k : ℕ) → k < n → getD memory k 0 ≡ big2At score (2 * k)
 
 unfoldable pub commandOf : ℕ → ℕ → ℕ → Command
 commandOf kind n byte =
@@ -24,4 +24,4 @@ commandOf kind n byte =
 
 -- the command whose six bytes begin at i
 abbrev pub commandAt : List ℕ → ℕ → Command
-commandAt xs i = commandOf (getD xs i 0) (big (getD xs (i + 1) 0 ∷ getD xs (i + 2) 0 ∷ getD xs (i + 3) 0 ∷ getD xs (i + 4) 0 ∷ [])) (getD xs (i + 5) 0)
+commandAt xs i = commandOf (getD xs i 0) (big4At xs (i + 1)) (getD xs (i + 5) 0)

@@ -42,7 +42,7 @@ fn fill(memory: &mut [u16], score: &[u8])
     ensures { λ _. ⌜ Filled (length (now (memory .entry))) (now (score .entry)) (now (memory .exit)) ⌝ }
 {
     for i in 0..memory.len() {
-        memory[i] = layout::big2(score[2 * i], score[2 * i + 1]);
+        memory[i] = layout::big2_at(score, 2 * i);
     }
 }
 
@@ -118,12 +118,7 @@ fn command_at(commands: &[u8], at: usize) -> Command
     requires { ⌜ at + 6 ≤ length (now commands) ⌝ }
     ensures { λ r. ⌜ r ≡ commandAt (now (commands .entry)) at ⌝ }
 {
-    let n = layout::big4(
-        commands[at + 1],
-        commands[at + 2],
-        commands[at + 3],
-        commands[at + 4],
-    );
+    let n = layout::big4_at(commands, at + 1);
     command_of(commands[at], n, commands[at + 5])
 }
 

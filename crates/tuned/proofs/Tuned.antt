@@ -14,9 +14,9 @@ use Rattle.answer.specs.Answer.{isDone}
 use Rattle.control.specs.Control.{bitOf, flagOf, withBit, runs, LEI, LPE, BLE, DIR}
 use Rattle.layout.specs.Bytes.{little, twos}
 use Rattle.sample.specs.Sample.{WHOLE_SAMPLE}
-use Rattle.chunks.specs.Chunks.{chunksOf, chunkAt, isWhole, before, chunksFrom, isHeaded, reading, isUnread, listed, named}
-use Rattle.wave.specs.Wave.{dataOf, countOf, loopOf, firstOf, isOnce, anyShort, isMono16, isCut, loopIn, anyCut, firstLoop, isBroken}
-use Rattle.wave_in.specs.Registers.{registerAt, startOf, endOf, typeBits, bitsOf}
+use Rattle.chunks.specs.Chunks.{chunksOf, chunkAt, isWhole, before, chunksFrom, isHeaded, listing, isUnreadable, listed, named}
+use Rattle.wave.specs.Wave.{dataOf, countOf, loopOf, firstOf, isOnce, anyShort, isMono16, isCut, loopIn, firstCut, firstLoop, isBroken}
+use Rattle.wave_in.specs.Registers.{registerAt, startOf, endOf, typeBits, loopBits}
 use Rattle.wave_in.specs.Import.{isOutside, importAnswer, takenAt, imported, isMiscounted, isOtherFormat, hasNoPlace}
 use Rattle.wave_in.specs.declared.Imported.{Imported}
 use Rattle.wave.specs.declared.Loop.the-variants.{Present}
@@ -31,92 +31,92 @@ use Rattle.tuned.specs.Tuned.{loopSamples, kindOf, roundSamples, Gets, P
 -- ---- the loop of an import that is done
 
 -- it starts at or before its last sample, and is of type 0, 1 or 2
-inside : (count kind start last : ℕ) → isOutside count (Present kind start last) ≡ false → (start ≤ last) × (kind ≤ 2)
+inside : (count type start last : ℕ) → isOutside count (Present type start last) ≡ false → (start ≤ last) × (type ≤ 2)
 unfolding isOutside
-inside count kind start last h =
-    let n = neither (ltb last start) (ltb 2 kind) (neither (leb count last) (ltb last start || ltb 2 kind) h .1) in
-    (ltb-false last start (n .0), ltb-false 2 kind (n .1))
+inside count type start last h =
+    let n = neither (ltb last start) (ltb 2 type) (neither (leb count last) (ltb last start || ltb 2 type) h .1) in
+    (ltb-false last start (n .0), ltb-false 2 type (n .1))
 
 -- ---- the bits and the period, by the loop's type
 
-mode-of : (kind CR : ℕ) → kind ≤ 2 → flagOf LPE CR ≡ flagOf LPE (typeBits kind) → flagOf BLE CR ≡ flagOf BLE (typeBits kind) → flagOf DIR CR ≡ flagOf DIR (typeBits kind) → Mode (kindOf kind) CR
+mode-of : (type CR : ℕ) → type ≤ 2 → flagOf LPE CR ≡ flagOf LPE (typeBits type) → flagOf BLE CR ≡ flagOf BLE (typeBits type) → flagOf DIR CR ≡ flagOf DIR (typeBits type) → Mode (kindOf type) CR
 unfolding flagOf bitOf withBit
 mode-of zero CR h l b d = (b, l, d)
 mode-of (suc zero) CR h l b d = (b, l)
 mode-of (suc (suc zero)) CR h l b d = (b, l, d)
-mode-of (suc (suc (suc kind))) CR h l b d = absurd (omega arith)
+mode-of (suc (suc (suc type))) CR h l b d = absurd (omega arith)
 
-round-is : (kind n : ℕ) (v : Voice) → kind ≤ 2 → v .end ≡ v .start + n * WHOLE_SAMPLE → periodOf (kindOf kind) v ≡ roundSamples kind n * WHOLE_SAMPLE
+round-is : (type n : ℕ) (v : Voice) → type ≤ 2 → v .end ≡ v .start + n * WHOLE_SAMPLE → periodOf (kindOf type) v ≡ roundSamples type n * WHOLE_SAMPLE
 unfolding periodOf
 round-is zero n v h e = omega arith
 round-is (suc zero) n v h e = omega arith
 round-is (suc (suc zero)) n v h e = omega arith
-round-is (suc (suc (suc kind))) n v h e = absurd (omega arith)
+round-is (suc (suc (suc type))) n v h e = absurd (omega arith)
 
 -- ---- the theorem
 
 pub imported-in-tune : ImportedInTune
-unfolding startOf endOf bitsOf
-imported-in-tune file memory word r after p h kind start last l v g q =
+unfolding startOf endOf loopBits
+imported-in-tune file memory word r after p h type start last l v g q =
     let t = importable file (length memory) word (sym (same-done p) ∙ h) in
-    let i = inside (countOf (dataOf (chunksOf file))) kind start last (rw l at (t .inside)) in
-    let k : r ≡ takenAt word (dataOf (chunksOf file)) (Present kind start last) = rw l at (import-done p h) in
-    let f : endOf word (Present kind start last) < 4294967296 = omega (arith, rw l at (end-fits t)) in
+    let i = inside (countOf (dataOf (chunksOf file))) type start last (rw l at (t .inside)) in
+    let k : r ≡ takenAt word (dataOf (chunksOf file)) (Present type start last) = rw l at (import-done p h) in
+    let f : endOf word (Present type start last) < 4294967296 = omega (arith, rw l at (end-fits t)) in
     let s : v .start ≡ registerAt word start = g .start ∙ ap (λ (x : Imported). x .start) k in
     let e : v .end ≡ registerAt word (last + 1) = g .end ∙ ap (λ (x : Imported). x .end) k in
     let n = loopSamples start last in
     let w : v .end ≡ v .start + n * WHOLE_SAMPLE = omega arith in
-    let b : r .bits ≡ typeBits kind = ap (λ (x : Imported). x .bits) k in
-    let loops : Loops (kindOf kind) v = record {
+    let b : r .bits ≡ typeBits type = ap (λ (x : Imported). x .bits) k in
+    let loops : Loops (kindOf type) v = record {
       running = q .running;
       heeded = q .heeded;
-      mode = mode-of kind (v .cr) (i .1) (g .loops ∙ ap (flagOf LPE) b) (g .both-ways ∙ ap (flagOf BLE) b) (g .direction ∙ ap (flagOf DIR) b);
+      mode = mode-of type (v .cr) (i .1) (g .loops ∙ ap (flagOf LPE) b) (g .both-ways ∙ ap (flagOf BLE) b) (g .direction ∙ ap (flagOf DIR) b);
       from = q .from;
       to = q .to;
       length = omega arith;
       pace = omega (arith, q .pace);
       address = omega arith;
     } in
-    record { period = round-is kind n v (i .1) w; in-tune = λ memory slow turns. held-in-tune (kindOf kind) memory slow turns v loops }
+    record { period = round-is type n v (i .1) w; in-tune = λ memory slow turns. held-in-tune (kindOf type) memory slow turns v loops }
 
 -- So the note is back at its place when its steps come to whole rounds, each of just as many samples as the loop has: at one sample a turn, after as many
 -- turns.
-pub back-after-rounds : (kind n : ℕ) (v : Voice) → Holds kind n v → (memory : ℕ → List ℕ) (slow : ℕ → ℕ) (turns rounds : ℕ)
-    → turns * v .fc ≡ rounds * (roundSamples kind n * WHOLE_SAMPLE)
-    → positionOf (kindOf kind) (turnsOf memory slow turns v) % (roundSamples kind n * WHOLE_SAMPLE) ≡ positionOf (kindOf kind) v % (roundSamples kind n * WHOLE_SAMPLE)
+pub back-after-rounds : (type n : ℕ) (v : Voice) → Holds type n v → (memory : ℕ → List ℕ) (slow : ℕ → ℕ) (turns rounds : ℕ)
+    → turns * v .fc ≡ rounds * (roundSamples type n * WHOLE_SAMPLE)
+    → positionOf (kindOf type) (turnsOf memory slow turns v) % (roundSamples type n * WHOLE_SAMPLE) ≡ positionOf (kindOf type) v % (roundSamples type n * WHOLE_SAMPLE)
 unfolding turnsOf
-back-after-rounds kind n v h memory slow turns rounds e =
-    rw (h .period) at (back-again (kindOf kind) memory slow turns v (h .in-tune memory slow 0 .loops) rounds (e ∙ ap (λ (x : ℕ). rounds * x) (sym (h .period))))
+back-after-rounds type n v h memory slow turns rounds e =
+    rw (h .period) at (back-again (kindOf type) memory slow turns v (h .in-tune memory slow 0 .loops) rounds (e ∙ ap (λ (x : ℕ). rounds * x) (sym (h .period))))
 
 -- ---- such files and voices
 
 -- two samples and a loop of both
 abbrev pub looped : ℕ → List ℕ
-looped kind = whole (mono ++ two-samples ++ sampler kind 0 1)
+looped type = whole (mono ++ two-samples ++ sampler type 0 1)
 
 -- what is answered where they are imported at word 10 of twenty
 abbrev pub answered : ℕ → Imported
-answered kind = imported (looped kind) 20 10
+answered type = imported (looped type) 20 10
 
 -- a voice at the start of that loop, which moves by a sample a turn; what a loop does not need is 0
 abbrev pub at-start : ℕ → Voice
 at-start CR = voiceOf (CR ∷ WHOLE_SAMPLE ∷ replicate 9 0 ++ 20480 ∷ 24576 ∷ 20480 ∷ [])
 
 -- for each type of loop: the import is done, its loop is that one, and such a voice gets it and plays it
-pub record Speaks (kind CR : ℕ) : Type 0 where
-  pub done : isDone (answered kind .answer) ≡ true
-  pub its-loop : loopOf (looped kind) (chunksOf (looped kind)) ≡ Present kind 0 1
-  pub gets : Gets (answered kind) (at-start CR)
+pub record Speaks (type CR : ℕ) : Type 0 where
+  pub done : isDone (answered type .answer) ≡ true
+  pub its-loop : loopOf (looped type) (chunksOf (looped type)) ≡ Present type 0 1
+  pub gets : Gets (answered type) (at-start CR)
   pub plays : Plays (loopSamples 0 1) (at-start CR)
 
 pub speaks : Speaks 0 0x08 × Speaks 1 0x18 × Speaks 2 0x48
-unfolding runs flagOf bitOf withBit little twos chunkAt isWhole before chunksFrom isHeaded reading isUnread listed named firstOf isOnce anyShort isMono16 isCut loopIn anyCut firstLoop startOf endOf bitsOf isBroken isMiscounted isOtherFormat isOutside hasNoPlace importAnswer imported
+unfolding runs flagOf bitOf withBit little twos chunkAt isWhole before chunksFrom isHeaded listing isUnreadable listed named firstOf isOnce anyShort isMono16 isCut loopIn firstCut firstLoop startOf endOf loopBits isBroken isMiscounted isOtherFormat isOutside hasNoPlace importAnswer imported
 speaks = (by 0 0x08 refl refl refl refl (refl, refl, refl) refl refl, by 1 0x18 refl refl refl refl (refl, refl, refl) refl refl, by 2 0x48 refl refl refl refl (refl, refl, refl) refl refl)
   where
-    by : (kind CR : ℕ) → isDone (answered kind .answer) ≡ true → loopOf (looped kind) (chunksOf (looped kind)) ≡ Present kind 0 1 → 20480 ≡ answered kind .start → 24576 ≡ answered kind .end
-        → (flagOf LPE CR ≡ flagOf LPE (answered kind .bits)) × (flagOf BLE CR ≡ flagOf BLE (answered kind .bits)) × (flagOf DIR CR ≡ flagOf DIR (answered kind .bits))
-        → runs CR ≡ true → flagOf LEI CR ≡ false → Speaks kind CR
-    by kind CR d l s e f r h = record {
+    by : (type CR : ℕ) → isDone (answered type .answer) ≡ true → loopOf (looped type) (chunksOf (looped type)) ≡ Present type 0 1 → 20480 ≡ answered type .start → 24576 ≡ answered type .end
+        → (flagOf LPE CR ≡ flagOf LPE (answered type .bits)) × (flagOf BLE CR ≡ flagOf BLE (answered type .bits)) × (flagOf DIR CR ≡ flagOf DIR (answered type .bits))
+        → runs CR ≡ true → flagOf LEI CR ≡ false → Speaks type CR
+    by type CR d l s e f r h = record {
       done = d;
       its-loop = l;
       gets = record { start = s; end = e; loops = f .0; both-ways = f .1; direction = f .2 };

@@ -21,12 +21,12 @@ use Rattle.voice.specs.Tune.{turnsOf, Kind, Forward, Reverse, Bidirectional, pe
 abbrev pub loopSamples : ℕ → ℕ → ℕ
 loopSamples start last = last + 1 - start
 
--- by the loop's type: the kind of loop that a voice plays, and the samples of one round of a loop of n
+-- by the loop's type: the type of loop that a voice plays, and the samples of one round of a loop of n
 abbrev pub kindOf : ℕ → Kind
-kindOf kind = cond (eqb kind 1) Bidirectional (cond (eqb kind 2) Reverse Forward)
+kindOf type = cond (eqb type 1) Bidirectional (cond (eqb type 2) Reverse Forward)
 
 abbrev pub roundSamples : ℕ → ℕ → ℕ
-roundSamples kind n = cond (eqb kind 1) (2 * n) n
+roundSamples type n = cond (eqb type 1) (2 * n) n
 
 -- The voice has START, END and the three loop bits of what was answered; the other bits of its control register are its own.
 pub record Gets (r : Imported) (v : Voice) : Type 0 where
@@ -45,12 +45,12 @@ pub record Plays (n : ℕ) (v : Voice) : Type 0 where
   pub pace : v .fc ≤ n * WHOLE_SAMPLE
 
 -- Its period is that of one round, in whole samples, and it is in tune after any number of turns, whatever the memory holds in each.
-pub record Holds (kind n : ℕ) (v : Voice) : Type 0 where
-  pub period : periodOf (kindOf kind) v ≡ roundSamples kind n * WHOLE_SAMPLE
-  pub in-tune : (memory : ℕ → List ℕ) (slow : ℕ → ℕ) (turns : ℕ) → InTune (kindOf kind) turns v (turnsOf memory slow turns v)
+pub record Holds (type n : ℕ) (v : Voice) : Type 0 where
+  pub period : periodOf (kindOf type) v ≡ roundSamples type n * WHOLE_SAMPLE
+  pub in-tune : (memory : ℕ → List ℕ) (slow : ℕ → ℕ) (turns : ℕ) → InTune (kindOf type) turns v (turnsOf memory slow turns v)
 
 abbrev pub ImportedInTune : Type 0
 ImportedInTune =
     (file memory : List ℕ) (word : ℕ) (r : Imported) (after : List ℕ) → Imports file memory word r after → isDone (r .answer) ≡ true
-    → (kind start last : ℕ) → loopOf file (chunksOf file) ≡ Present kind start last
-    → (v : Voice) → Gets r v → Plays (loopSamples start last) v → Holds kind (loopSamples start last) v
+    → (type start last : ℕ) → loopOf file (chunksOf file) ≡ Present type start last
+    → (v : Voice) → Gets r v → Plays (loopSamples start last) v → Holds type (loopSamples start last) v

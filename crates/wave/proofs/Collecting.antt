@@ -6,7 +6,7 @@ use mathlib.Core.Bool.{true, false, _||_, or-true, or-assoc}
 use mathlib.Core.List.{List, [], _∷_, _++_, append-assoc, append-nil}
 use Prim.Native.Nat.{ℕ, _+_, _-_, _≤_, _<_}
 use native.Mathlib.Omega.{arith}
-use Rattle.chunks.specs.Chunks.{Reading, broken, chunks, before, chunksFrom, chunkAt, next, FIRST_CHUNK}
+use Rattle.chunks.specs.Chunks.{Listing, unreadable, chunks, before, chunksFrom, chunkAt, next, FIRST_CHUNK}
 use Rattle.chunks.specs.Walk.{reachOf}
 use Rattle.chunks.specs.declared.Chunk.{Chunk}
 use Rattle.chunks.specs.declared.Reach.{Reach}
@@ -28,8 +28,8 @@ short-append (c ∷ cs) ds = rw (short-append cs ds) (sym (or-assoc (isShort c) 
 
 -- ---- how far the pass has come: some chunks are done, and the others are read from here
 
-unfoldable pub joined : List Chunk → Reading → Reading
-joined cs broken = broken
+unfoldable pub joined : List Chunk → Listing → Listing
+joined cs unreadable = unreadable
 joined cs (chunks ds) = chunks (cs ++ ds)
 
 pub record Progress (file : List ℕ) (end : ℕ) (found : Found) (i : ℕ) : Type 0 where
@@ -41,20 +41,20 @@ pub record Progress (file : List ℕ) (end : ℕ) (found : Found) (i : ℕ) : Ty
   pub enough : end ≤ i + left
   pub within : i ≤ end
 
-none-joined : (r : Reading) → r ≡ joined [] r
+none-joined : (r : Listing) → r ≡ joined [] r
 unfolding joined
-none-joined broken = refl
+none-joined unreadable = refl
 none-joined (chunks cs) = refl
 
-joined-more : (cs : List Chunk) (c : Chunk) (r : Reading) → joined cs (before c r) ≡ joined (cs ++ (c ∷ [])) r
+joined-more : (cs : List Chunk) (c : Chunk) (r : Listing) → joined cs (before c r) ≡ joined (cs ++ (c ∷ [])) r
 unfolding joined before
-joined-more cs c broken = refl
+joined-more cs c unreadable = refl
 joined-more cs c (chunks ds) = ap chunks (sym (append-assoc cs (c ∷ []) ds))
 
 -- a short format chunk that is done makes the file broken, whatever follows
-short-joined : (cs : List Chunk) (r : Reading) → anyShort cs ≡ true → Broken ≡ collectedOf (joined cs r)
+short-joined : (cs : List Chunk) (r : Listing) → anyShort cs ≡ true → Broken ≡ collectedOf (joined cs r)
 unfolding joined collectedOf
-short-joined cs broken h = refl
+short-joined cs unreadable h = refl
 short-joined cs (chunks ds) h = rw (short-append cs ds, h)
 
 pub begun : (file : List ℕ) (end : ℕ) (f : Found) → f ≡ foundOf [] → FIRST_CHUNK ≤ end → Progress file end f FIRST_CHUNK

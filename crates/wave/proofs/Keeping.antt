@@ -9,22 +9,22 @@ use lib.Dec.{eqb}
 use Rattle.chunks.specs.Chunks.{named, FORMAT, DATA, SAMPLER}
 use Rattle.chunks.specs.declared.Chunk.{Chunk}
 use Rattle.chunks.proofs.Named.{Each, named-append}
-use Rattle.wave.specs.Wave.{firstOf, isOnce, anyCut, firstLoop}
+use Rattle.wave.specs.Wave.{firstOf, isOnce, firstCut, firstLoop}
 use Rattle.wave.specs.declared.Found.{Found}
-use Rattle.wave.specs.Parse.{counted, keptOf, keep, foundOf, isOther, withChunk, anyCutOf, loopOfKept}
+use Rattle.wave.specs.Parse.{timesOf, keptOf, keep, foundOf, isOther, withChunk, firstCutOf, loopOfKept}
 
 -- ---- one chunk more
 
 -- of that name
 last-kept : (xs : List Chunk) (c : Chunk)
-    → cond (eqb (counted xs) 0) (record { count = 1; first = c }) (record { count = 2; first = firstOf xs }) ≡ keptOf (xs ++ (c ∷ []))
-unfolding counted firstOf
+    → cond (eqb (timesOf xs) 0) (record { times = 1; first = c }) (record { times = 2; first = firstOf xs }) ≡ keptOf (xs ++ (c ∷ []))
+unfolding timesOf firstOf
 last-kept [] c = refl
 last-kept (x ∷ []) c = refl
 last-kept (x ∷ y ∷ xs) c = refl
 
 kept-by : (t : Bool) (xs : List Chunk) (c : Chunk)
-    → cond t (cond (eqb (counted xs) 0) (record { count = 1; first = c }) (record { count = 2; first = firstOf xs })) (keptOf xs) ≡ keptOf (xs ++ cond t (c ∷ []) [])
+    → cond t (cond (eqb (timesOf xs) 0) (record { times = 1; first = c }) (record { times = 2; first = firstOf xs })) (keptOf xs) ≡ keptOf (xs ++ cond t (c ∷ []) [])
 kept-by true xs c = last-kept xs c
 kept-by false xs c = ap keptOf (sym (append-nil xs))
 
@@ -43,20 +43,20 @@ other-kept c f h =
 
 -- ---- what is kept, and what the rules ask
 
-pub kept-once : (cs : List Chunk) → eqb (counted cs) 1 ≡ isOnce cs
-unfolding counted isOnce
+pub kept-once : (cs : List Chunk) → eqb (timesOf cs) 1 ≡ isOnce cs
+unfolding timesOf isOnce
 kept-once [] = refl
 kept-once (c ∷ []) = refl
 kept-once (c ∷ d ∷ cs) = refl
 
-pub kept-cut : (file : List ℕ) (cs : List Chunk) → anyCutOf file (keptOf cs) ≡ anyCut file cs
-unfolding counted firstOf anyCut
+pub kept-cut : (file : List ℕ) (cs : List Chunk) → firstCutOf file (keptOf cs) ≡ firstCut file cs
+unfolding timesOf firstOf firstCut
 kept-cut file [] = refl
 kept-cut file (c ∷ []) = refl
 kept-cut file (c ∷ d ∷ cs) = refl
 
 pub kept-loop : (file : List ℕ) (cs : List Chunk) → loopOfKept file (keptOf cs) ≡ firstLoop file cs
-unfolding counted firstOf firstLoop
+unfolding timesOf firstOf firstLoop
 kept-loop file [] = refl
 kept-loop file (c ∷ []) = refl
 kept-loop file (c ∷ d ∷ cs) = refl

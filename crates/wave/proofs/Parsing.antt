@@ -7,14 +7,14 @@ use mathlib.Core.List.{List, [], _∷_}
 use Prim.Native.Nat.{ℕ, _≤_}
 use native.Mathlib.Omega.{arith}
 use lib.ListN.{length}
-use Rattle.chunks.specs.Chunks.{Reading, broken, chunks, chunksFrom, riffEnd, isHeaded, reading, isUnread, listed, chunksOf, named, SAMPLER, FIRST_CHUNK, MOST_FILE_BYTES}
+use Rattle.chunks.specs.Chunks.{Listing, unreadable, chunks, chunksFrom, riffEnd, isHeaded, listing, isUnreadable, listed, chunksOf, named, SAMPLER, FIRST_CHUNK, MOST_FILE_BYTES}
 use Rattle.chunks.specs.Row.{InRow}
 use Rattle.chunks.specs.declared.Chunk.{Chunk}
 use Rattle.chunks.proofs.Headed.{headed-within}
 use Rattle.chunks.proofs.Row.{read-in-row}
 use Rattle.chunks.proofs.Named.{Each, Before, row-before, each-named}
-use Rattle.wave.specs.Wave.{firstOf, anyShort, anyCut, isBroken}
-use Rattle.wave.specs.Parse.{foundOf, anyCutOf, collectedOf, parsedOf, InFile}
+use Rattle.wave.specs.Wave.{firstOf, anyShort, firstCut, isBroken}
+use Rattle.wave.specs.Parse.{foundOf, firstCutOf, collectedOf, parsedOf, InFile}
 use Rattle.wave.specs.declared.Found.{Found}
 use Rattle.wave.specs.declared.Parsed.{Parsed}
 use Rattle.wave.specs.declared.Parsed.the-variants.{Broken, Chunks}
@@ -30,26 +30,26 @@ by-found : (t : Bool) (f g : Found) → (r : Parsed) → r ≡ Chunks g → r �
 by-found true f g r e h = absurd (let z : _≡_ {A = ℕ} 0 1 = cc in omega arith)
 by-found false f g r e h = (refl, cc)
 
-came-broken : (x : Reading) (r : Parsed) → r ≡ Broken → r ≡ collectedOf x → (b : Bool) → (isUnread x || (anyShort (listed x) || b)) ≡ true
-unfolding collectedOf isUnread listed
-came-broken broken r e g b = refl
+came-broken : (x : Listing) (r : Parsed) → r ≡ Broken → r ≡ collectedOf x → (b : Bool) → (isUnreadable x || (anyShort (listed x) || b)) ≡ true
+unfolding collectedOf isUnreadable listed
+came-broken unreadable r e g b = refl
 came-broken (chunks cs) r e g b = rw (by-short (anyShort cs) (foundOf cs) r e g)
 
-came-found : (x : Reading) (r : Parsed) (f : Found) → r ≡ Chunks f → r ≡ collectedOf x → (isUnread x ≡ false) × ((anyShort (listed x) ≡ false) × (f ≡ foundOf (listed x)))
-unfolding collectedOf isUnread listed
-came-found broken r f e g = absurd (let z : _≡_ {A = ℕ} 0 1 = cc in omega arith)
+came-found : (x : Listing) (r : Parsed) (f : Found) → r ≡ Chunks f → r ≡ collectedOf x → (isUnreadable x ≡ false) × ((anyShort (listed x) ≡ false) × (f ≡ foundOf (listed x)))
+unfolding collectedOf isUnreadable listed
+came-found unreadable r f e g = absurd (let z : _≡_ {A = ℕ} 0 1 = cc in omega arith)
 came-found (chunks cs) r f e g = let b = by-found (anyShort cs) (foundOf cs) f r e g in (refl, (b .0, b .1))
 
 -- ---- a file that can be read as chunks
 
-read-by : (t : Bool) (r : Reading) → isUnread (cond t r broken) ≡ false → (t ≡ true) × (isUnread r ≡ false)
-unfolding isUnread
+read-by : (t : Bool) (r : Listing) → isUnreadable (cond t r unreadable) ≡ false → (t ≡ true) × (isUnreadable r ≡ false)
+unfolding isUnreadable
 read-by true r h = (refl, h)
 read-by false r h = absurd (false≢true (sym h))
 
-is-read : (r : Reading) → isUnread r ≡ false → r ≡ chunks (listed r)
-unfolding isUnread listed
-is-read broken h = absurd (false≢true (sym h))
+is-read : (r : Listing) → isUnreadable r ≡ false → r ≡ chunks (listed r)
+unfolding isUnreadable listed
+is-read unreadable h = absurd (false≢true (sym h))
 is-read (chunks cs) h = refl
 
 -- its chunks stand in a row up to the end of its RIFF length, which lies in the file
@@ -58,8 +58,8 @@ pub record InFileRow (file : List ℕ) : Type 0 where
   pub within : riffEnd file ≤ length file
   pub few : length file ≤ MOST_FILE_BYTES
 
-pub read-row : (file : List ℕ) → isUnread (reading file) ≡ false → InFileRow file
-unfolding reading
+pub read-row : (file : List ℕ) → isUnreadable (listing file) ≡ false → InFileRow file
+unfolding listing
 read-row file h =
     let t = read-by (isHeaded file) (chunksFrom (riffEnd file) file (riffEnd file) FIRST_CHUNK) h in
     let w = headed-within file (t .0) in
@@ -91,39 +91,39 @@ module _ (file : List ℕ) where
   is-broken e = rw e
 
   pub no-header : isHeaded file ≡ false → Broken ≡ parsedOf file
-  unfolding isBroken reading isUnread
+  unfolding isBroken listing isUnreadable
   no-header h = is-broken (rw h)
 
   module _ (headed : isHeaded file ≡ true) (end : ℕ) (upto : end ≡ riffEnd file) (r : Parsed) (pass : r ≡ collectedOf (chunksFrom end file end FIRST_CHUNK)) where
-    whole-pass : r ≡ collectedOf (reading file)
-    unfolding reading
+    whole-pass : r ≡ collectedOf (listing file)
+    unfolding listing
     whole-pass = pass ∙ rw (headed, upto)
 
     pub no-chunks : r ≡ Broken → Broken ≡ parsedOf file
     unfolding isBroken
-    no-chunks e = is-broken (came-broken (reading file) r e whole-pass (anyCut file (named SAMPLER (chunksOf file))))
+    no-chunks e = is-broken (came-broken (listing file) r e whole-pass (firstCut file (named SAMPLER (chunksOf file))))
 
     module _ (f : Found) (found : r ≡ Chunks f) where
       pub found-is : f ≡ foundOf (chunksOf file)
-      found-is = came-found (reading file) r f found whole-pass .1 .1
+      found-is = came-found (listing file) r f found whole-pass .1 .1
 
       pub sampler-in : InFile file (f .sampler .first)
       sampler-in =
-          let w = came-found (reading file) r f found whole-pass in
+          let w = came-found (listing file) r f found whole-pass in
           rw found-is (first-in file (named SAMPLER (chunksOf file)) (each-named (InFile file) SAMPLER (chunksOf file) (each-in-file file (read-row file (w .0)))))
 
-      pub sampler-cut : anyCutOf file (f .sampler) ≡ true → Broken ≡ parsedOf file
+      pub sampler-cut : firstCutOf file (f .sampler) ≡ true → Broken ≡ parsedOf file
       unfolding isBroken
       sampler-cut t =
-          let w = came-found (reading file) r f found whole-pass in
-          let c : anyCut file (named SAMPLER (chunksOf file)) ≡ true = sym (kept-cut file (named SAMPLER (chunksOf file))) ∙ rw found-is at t in
+          let w = came-found (listing file) r f found whole-pass in
+          let c : firstCut file (named SAMPLER (chunksOf file)) ≡ true = sym (kept-cut file (named SAMPLER (chunksOf file))) ∙ rw found-is at t in
           is-broken (rw (w .0, w .1 .0, c))
 
-      pub all-there : anyCutOf file (f .sampler) ≡ false → Chunks f ≡ parsedOf file
+      pub all-there : firstCutOf file (f .sampler) ≡ false → Chunks f ≡ parsedOf file
       unfolding isBroken parsedOf
       all-there t =
-          let w = came-found (reading file) r f found whole-pass in
-          let c : anyCut file (named SAMPLER (chunksOf file)) ≡ false = sym (kept-cut file (named SAMPLER (chunksOf file))) ∙ rw found-is at t in
+          let w = came-found (listing file) r f found whole-pass in
+          let c : firstCut file (named SAMPLER (chunksOf file)) ≡ false = sym (kept-cut file (named SAMPLER (chunksOf file))) ∙ rw found-is at t in
           rw (w .0, w .1 .0, c, found-is)
 
 -- ---- what an answer tells

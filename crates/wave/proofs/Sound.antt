@@ -7,11 +7,11 @@ use Prim.Native.Nat.{ℕ, _≤_}
 use borrow.Author.Tests.{ltb-false}
 use lib.Dec.{ltb, eqb}
 use Rattle.numbers.proofs.Tests.{neither}
-use Rattle.chunks.specs.Chunks.{reading, isUnread, chunksOf, named, FORMAT, SAMPLER}
+use Rattle.chunks.specs.Chunks.{listing, isUnreadable, chunksOf, named, FORMAT, SAMPLER}
 use Rattle.chunks.specs.declared.Chunk.{Chunk}
 use Rattle.chunks.proofs.Named.{Each, each-named}
-use Rattle.wave.specs.Wave.{firstOf, isOnce, formatOf, isShort, anyShort, anyCut, isBroken, FORMAT-BYTES}
-use Rattle.wave.specs.Parse.{keptOf, anyCutOf, InFile}
+use Rattle.wave.specs.Wave.{firstOf, isOnce, formatOf, isShort, anyShort, firstCut, isBroken, FORMAT-BYTES}
+use Rattle.wave.specs.Parse.{keptOf, firstCutOf, InFile}
 use Rattle.wave.proofs.Keeping.{once-each, kept-cut}
 use Rattle.wave.proofs.Parsing.{InFileRow, read-row, each-in-file, first-in}
 
@@ -19,13 +19,13 @@ use Rattle.wave.proofs.Parsing.{InFileRow, read-row, each-in-file, firs
 pub record Sound (file : List ℕ) : Type 0 where
   pub row : InFileRow file
   pub full : anyShort (chunksOf file) ≡ false
-  pub uncut : anyCut file (named SAMPLER (chunksOf file)) ≡ false
+  pub uncut : firstCut file (named SAMPLER (chunksOf file)) ≡ false
 
 pub not-broken : (file : List ℕ) → isBroken file ≡ false → Sound file
 unfolding isBroken
 not-broken file h =
-    let a = neither (isUnread (reading file)) (anyShort (chunksOf file) || anyCut file (named SAMPLER (chunksOf file))) h in
-    let b = neither (anyShort (chunksOf file)) (anyCut file (named SAMPLER (chunksOf file))) (a .1) in
+    let a = neither (isUnreadable (listing file)) (anyShort (chunksOf file) || firstCut file (named SAMPLER (chunksOf file))) h in
+    let b = neither (anyShort (chunksOf file)) (firstCut file (named SAMPLER (chunksOf file))) (a .1) in
     record { row = read-row file (a .0); full = b .0; uncut = b .1 }
 
 abbrev Full : Chunk → Type 0
@@ -53,5 +53,5 @@ module _ (file : List ℕ) (s : Sound file) where
   pub format-full : isOnce (named FORMAT (chunksOf file)) ≡ true → FORMAT-BYTES ≤ formatOf (chunksOf file) .size
   format-full o = once-each Full (named FORMAT (chunksOf file)) o (each-full (chunksOf file) (s .full))
 
-  pub sampler-uncut : anyCutOf file (keptOf (named SAMPLER (chunksOf file))) ≡ false
+  pub sampler-uncut : firstCutOf file (keptOf (named SAMPLER (chunksOf file))) ≡ false
   sampler-uncut = kept-cut file (named SAMPLER (chunksOf file)) ∙ s .uncut

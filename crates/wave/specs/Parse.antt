@@ -5,7 +5,7 @@ use mathlib.Core.Bool.{Bool, cond, not, _&&_}
 use mathlib.Core.List.{List, [], _∷_}
 use lib.Dec.{eqb}
 use lib.ListN.{length}
-use Rattle.chunks.specs.Chunks.{Reading, broken, chunks, chunksOf, named, FORMAT, DATA, SAMPLER}
+use Rattle.chunks.specs.Chunks.{Listing, unreadable, chunks, chunksOf, named, FORMAT, DATA, SAMPLER}
 use Rattle.chunks.specs.declared.Chunk.{Chunk}
 use Rattle.wave.specs.Wave.{firstOf, anyShort, isCut, loopIn, isBroken}
 use Rattle.wave.specs.declared.Loop.{Loop}
@@ -18,43 +18,43 @@ use Rattle.wave.specs.declared.Parsed.the-variants.{Broken, Chunks}
 -- ---- what is kept of some chunks, and with one more
 
 -- how many they are, where 2 stands for more as well
-unfoldable pub counted : List Chunk → ℕ
-counted [] = 0
-counted (c ∷ []) = 1
-counted (c ∷ d ∷ cs) = 2
+unfoldable pub timesOf : List Chunk → ℕ
+timesOf [] = 0
+timesOf (c ∷ []) = 1
+timesOf (c ∷ d ∷ cs) = 2
 
 abbrev pub keptOf : List Chunk → Kept
-keptOf cs = record { count = counted cs; first = firstOf cs }
+keptOf cs = record { times = timesOf cs; first = firstOf cs }
 
 abbrev pub keep : ℕ → Chunk → Kept → Kept
-keep name c k = cond (eqb (c .name) name) (cond (eqb (k .count) 0) (record { count = 1; first = c }) (record { count = 2; first = k .first })) k
+keep name c k = cond (eqb (c .name) name) (cond (eqb (k .times) 0) (record { times = 1; first = c }) (record { times = 2; first = k .first })) k
 
 -- of all chunks: of those of each name
 abbrev pub foundOf : List Chunk → Found
-foundOf cs = record { format = keptOf (named FORMAT cs); sound = keptOf (named DATA cs); sampler = keptOf (named SAMPLER cs) }
+foundOf cs = record { format = keptOf (named FORMAT cs); pcm = keptOf (named DATA cs); sampler = keptOf (named SAMPLER cs) }
 
 -- none of the three names
 abbrev pub isOther : ℕ → Bool
 isOther name = not (eqb name FORMAT) && (not (eqb name DATA) && not (eqb name SAMPLER))
 
 abbrev pub withChunk : Chunk → Found → Found
-withChunk c f = record { format = keep FORMAT c (f .format); sound = keep DATA c (f .sound); sampler = keep SAMPLER c (f .sampler) }
+withChunk c f = record { format = keep FORMAT c (f .format); pcm = keep DATA c (f .pcm); sampler = keep SAMPLER c (f .sampler) }
 
 -- format or data is not there just once
-abbrev pub miscounted : Found → Bool
-miscounted f = not (eqb (f .format .count) 1 && eqb (f .sound .count) 1)
+abbrev pub foundMiscounted : Found → Bool
+foundMiscounted f = not (eqb (f .format .times) 1 && eqb (f .pcm .times) 1)
 
 -- the first sampler chunk, of those that are kept: whether it is cut, and its first loop
-abbrev pub anyCutOf : List ℕ → Kept → Bool
-anyCutOf file k = not (eqb (k .count) 0) && isCut file (k .first)
+abbrev pub firstCutOf : List ℕ → Kept → Bool
+firstCutOf file k = not (eqb (k .times) 0) && isCut file (k .first)
 
 abbrev pub loopOfKept : List ℕ → Kept → Loop
-loopOfKept file k = cond (eqb (k .count) 0) Absent (loopIn file (k .first))
+loopOfKept file k = cond (eqb (k .times) 0) Absent (loopIn file (k .first))
 
 -- ---- what the file comes to
 
-unfoldable pub collectedOf : Reading → Parsed
-collectedOf broken = Broken
+unfoldable pub collectedOf : Listing → Parsed
+collectedOf unreadable = Broken
 collectedOf (chunks cs) = cond (anyShort cs) Broken (Chunks (foundOf cs))
 
 unfoldable pub parsedOf : List ℕ → Parsed

@@ -6,7 +6,7 @@ use mathlib.Core.List.{List, [], _∷_}
 use lib.Dec.{ltb, eqb}
 use Rattle.layout.specs.Parts.{part}
 use Rattle.layout.specs.Bytes.{little, little2At, little4At, twos}
-use Rattle.chunks.specs.Chunks.{reading, isUnread, chunksOf, named, FORMAT, DATA, SAMPLER}
+use Rattle.chunks.specs.Chunks.{listing, isUnreadable, chunksOf, named, FORMAT, DATA, SAMPLER}
 use Rattle.chunks.specs.declared.Chunk.{Chunk}
 use Rattle.wave.specs.declared.Loop.{Loop}
 use Rattle.wave.specs.declared.Loop.the-variants.{Absent, Present}
@@ -75,9 +75,9 @@ loopIn file c =
     cond (eqb (loopsOf file c) 0) Absent (Present (little4At file (i + 4)) (little4At file (i + 8)) (little4At file (i + 12)))
 
 -- of the first sampler chunk, if there is one; later ones are not looked into
-unfoldable pub anyCut : List ℕ → List Chunk → Bool
-anyCut file [] = false
-anyCut file (c ∷ cs) = isCut file c
+unfoldable pub firstCut : List ℕ → List Chunk → Bool
+firstCut file [] = false
+firstCut file (c ∷ cs) = isCut file c
 
 unfoldable pub firstLoop : List ℕ → List Chunk → Loop
 firstLoop file [] = Absent
@@ -89,4 +89,4 @@ loopOf file cs = firstLoop file (named SAMPLER cs)
 -- ---- the file cannot be read as chunks, or a format chunk, or the first sampler chunk, has less than it must
 
 unfoldable pub isBroken : List ℕ → Bool
-isBroken file = isUnread (reading file) || (anyShort (chunksOf file) || anyCut file (named SAMPLER (chunksOf file)))
+isBroken file = isUnreadable (listing file) || (anyShort (chunksOf file) || firstCut file (named SAMPLER (chunksOf file)))

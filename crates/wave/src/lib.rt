@@ -10,7 +10,7 @@ ghost use Prim.Native.Nat.{_≤_};
 ghost use lib.ListN.{length};
 ghost use Rattle.chunks.specs.Chunks.{chunksFrom, FIRST_CHUNK as Chunks·FIRST_CHUNK};
 ghost use Rattle.wave.specs.Wave.{isShort, isMono16, isCut, loopIn, FORMAT-BYTES};
-ghost use Rattle.wave.specs.Parse.{keptOf, keep as Parse·keep, foundOf, isOther, withChunk, miscounted, collectedOf, parsedOf, anyCutOf, loopOfKept, InFile};
+ghost use Rattle.wave.specs.Parse.{keptOf, keep as Parse·keep, foundOf, isOther, withChunk, foundMiscounted, collectedOf, parsedOf, firstCutOf, loopOfKept, InFile};
 use chunks::Chunk;
 use chunks::Opened;
 use chunks::Reach;
@@ -22,23 +22,26 @@ const SAMPLER_BYTES: usize = 36;
 
 const LOOP_BYTES: usize = 24;
 
+// Where a sampler chunk has the number of its loops.
+const LOOP_COUNT: usize = 28;
+
 // The first loop of a file.
 pub enum Loop {
     Absent,
-    // Its type, its first sample and its last.
-    Present { kind: u32, start: u32, last: u32 },
+    // Its type (`type` is a word of the language), its first sample and its last.
+    Present { form: u32, start: u32, last: u32 },
 }
 
 // What is kept of the chunks of a name: how many they are, where 2 stands for more as well, and the first.
 pub struct Kept {
-    pub count: usize,
+    pub times: usize,
     pub first: Chunk,
 }
 
-// What one pass keeps. (The data chunk is `sound`.)
+// What one pass keeps. (The data chunk is `pcm`.)
 pub struct Found {
     pub format: Kept,
-    pub sound: Kept,
+    pub pcm: Kept,
     pub sampler: Kept,
 }
 
@@ -58,7 +61,7 @@ pub fn parse(file: &[u8]) -> Parsed
         return Parsed::Broken;
     };
     let sampler = found.sampler;
-    if any_cut(file, sampler) {
+    if first_cut(file, sampler) {
         return Parsed::Broken;
     }
     Parsed::Chunks(found)
@@ -98,7 +101,7 @@ fn nothing() -> Found
 {
     Found {
         format: none(),
-        sound: none(),
+        pcm: none(),
         sampler: none(),
     }
 }
@@ -107,7 +110,7 @@ fn none() -> Kept
     ensures { λ r. ⌜ r ≡ keptOf [] ⌝ }
 {
     Kept {
-        count: 0,
+        times: 0,
         first: Chunk {
             name: 0,
             place: 0,
@@ -124,11 +127,11 @@ fn with_chunk(c: Chunk, f: Found) -> Found
         return f;
     }
     let format = f.format;
-    let sound = f.sound;
+    let pcm = f.pcm;
     let sampler = f.sampler;
     Found {
         format: keep(chunks::format(), c, format),
-        sound: keep(chunks::data(), c, sound),
+        pcm: keep(chunks::data(), c, pcm),
         sampler: keep(chunks::sampler(), c, sampler),
     }
 }
@@ -146,18 +149,18 @@ fn keep(name: u32, c: Chunk, k: Kept) -> Kept
     if c.name != name {
         return k;
     }
-    if k.count == 0 {
-        return Kept { count: 1, first: c };
+    if k.times == 0 {
+        return Kept { times: 1, first: c };
     }
     let first = k.first;
-    Kept { count: 2, first }
+    Kept { times: 2, first }
 }
 
 // Whether format and data are not there just once each.
 pub fn is_miscounted(f: Found) -> bool
-    ensures { λ r. ⌜ r ≡ miscounted f ⌝ }
+    ensures { λ r. ⌜ r ≡ foundMiscounted f ⌝ }
 {
-    !((f.format.count == 1) & (f.sound.count == 1))
+    !((f.format.times == 1) & (f.pcm.times == 1))
 }
 
 // ---- the format
@@ -176,12 +179,12 @@ pub fn is_mono16(file: &[u8], c: Chunk) -> bool
 // ---- the sampler
 
 // The first sampler chunk, where there is one, has less than it must.
-fn any_cut(file: &[u8], k: Kept) -> bool
+fn first_cut(file: &[u8], k: Kept) -> bool
     requires { ⌜ InFile (now file) (k .first) ⌝ }
-    ensures { λ r. ⌜ r ≡ anyCutOf (now (file .entry)) k ⌝ }
+    ensures { λ r. ⌜ r ≡ firstCutOf (now (file .entry)) k ⌝ }
 {
     let first = k.first;
-    (k.count != 0) & is_cut(file, first)
+    (k.times != 0) & is_cut(file, first)
 }
 
 fn is_cut(file: &[u8], c: Chunk) -> bool
@@ -191,16 +194,16 @@ fn is_cut(file: &[u8], c: Chunk) -> bool
     if c.size < SAMPLER_BYTES {
         return true;
     }
-    let loops = layout::little4_at(file, c.place + 28) as usize;
+    let loops = layout::little4_at(file, c.place + LOOP_COUNT) as usize;
     c.size < SAMPLER_BYTES + LOOP_BYTES * loops
 }
 
 pub fn first_loop(file: &[u8], k: Kept) -> Loop
     requires { ⌜ InFile (now file) (k .first) ⌝ }
-    requires { ⌜ anyCutOf (now file) k ≡ false ⌝ }
+    requires { ⌜ firstCutOf (now file) k ≡ false ⌝ }
     ensures { λ r. ⌜ r ≡ loopOfKept (now (file .entry)) k ⌝ }
 {
-    if k.count == 0 {
+    if k.times == 0 {
         return Loop::Absent;
     }
     let first = k.first;
@@ -213,12 +216,12 @@ fn loop_in(file: &[u8], c: Chunk) -> Loop
     ensures { λ r. ⌜ r ≡ loopIn (now (file .entry)) c ⌝ }
 {
     let place = c.place;
-    if layout::little4_at(file, place + 28) == 0 {
+    if layout::little4_at(file, place + LOOP_COUNT) == 0 {
         return Loop::Absent;
     }
     let i = place + SAMPLER_BYTES;
     Loop::Present {
-        kind: layout::little4_at(file, i + 4),
+        form: layout::little4_at(file, i + 4),
         start: layout::little4_at(file, i + 8),
         last: layout::little4_at(file, i + 12),
     }

@@ -16,7 +16,7 @@ use Rattle.machine.proofs.Valid.{cut-voice}
 use Rattle.layout.specs.Parts.{part, withPart}
 use Rattle.layout.proofs.Parts.{with-length, with-part, with-before, with-after}
 use Rattle.sample.specs.Sample.{BANK_WORDS, WHOLE_SAMPLE}
-use Rattle.chunks.specs.Chunks.{reading, isUnread, chunksOf, HEADER_BYTES, FIRST_CHUNK, riffEnd}
+use Rattle.chunks.specs.Chunks.{listing, isUnreadable, chunksOf, HEADER_BYTES, FIRST_CHUNK, riffEnd}
 use Rattle.chunks.proofs.Row.{row-few}
 use Rattle.wave.specs.Wave.{dataOf, samplesOf, loopOf}
 use Rattle.wave_in.specs.Registers.{startOf}
@@ -103,7 +103,7 @@ high-kept j k m h =
 start-whole : (word : ℕ) (l : Loop) → (k : ℕ) × (startOf word l ≡ k * WHOLE_SAMPLE)
 unfolding startOf
 start-whole word Absent = (0, refl)
-start-whole word (Present kind start last) = (word % BANK_WORDS + start, refl)
+start-whole word (Present type start last) = (word % BANK_WORDS + start, refl)
 
 module _ (v : ℕ) (h : v < 32) where
   start-cut : (k : ℕ) → k * WHOLE_SAMPLE < voiceRange END → cut (voiceWord v START) (k * WHOLE_SAMPLE) ≡ k * WHOLE_SAMPLE
@@ -132,7 +132,7 @@ module _ (v : ℕ) (h : v < 32) where
 
 -- ---- the steps of the pass: each of the chunks takes eight bytes or more
 
-pub chunks-few : (file : List ℕ) → isUnread (reading file) ≡ false → FIRST_CHUNK + HEADER_BYTES * length (chunksOf file) ≤ length file
+pub chunks-few : (file : List ℕ) → isUnreadable (listing file) ≡ false → FIRST_CHUNK + HEADER_BYTES * length (chunksOf file) ≤ length file
 chunks-few file h =
     let r = read-row file h in
     let f = row-few file (riffEnd file) FIRST_CHUNK (chunksOf file) (r .row) in

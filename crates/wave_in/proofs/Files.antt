@@ -7,9 +7,9 @@ use lib.ListN.{length, replicate}
 use Rattle.answer.specs.Answer.{answerNumber}
 use Rattle.control.specs.Control.{bitOf, withBit}
 use Rattle.layout.specs.Bytes.{little, twos}
-use Rattle.chunks.specs.Chunks.{chunkAt, isWhole, before, chunksFrom, isHeaded, reading, isUnread, listed, named}
-use Rattle.wave.specs.Wave.{firstOf, isOnce, anyShort, isMono16, isCut, loopIn, anyCut, firstLoop, isBroken}
-use Rattle.wave_in.specs.Registers.{startOf, endOf, bitsOf}
+use Rattle.chunks.specs.Chunks.{chunkAt, isWhole, before, chunksFrom, isHeaded, listing, isUnreadable, listed, named}
+use Rattle.wave.specs.Wave.{firstOf, isOnce, anyShort, isMono16, isCut, loopIn, firstCut, firstLoop, isBroken}
+use Rattle.wave_in.specs.Registers.{startOf, endOf, loopBits}
 use Rattle.wave_in.specs.Import.{isMiscounted, isOtherFormat, isOutside, hasNoPlace, importAnswer, imported, importMemory}
 
 -- ---- how the files are made
@@ -60,10 +60,10 @@ two-samples = chunk dat (1 ∷ 2 ∷ 3 ∷ 4 ∷ [])
 
 -- a sampler that counts n loops, and has one
 abbrev counting : ℕ → ℕ → ℕ → ℕ → List ℕ
-counting n kind start last = chunk smpl (replicate 28 0 ++ four n ++ four 0 ++ four 7 ++ four kind ++ four start ++ four last ++ four 0 ++ four 0)
+counting n type start last = chunk smpl (replicate 28 0 ++ four n ++ four 0 ++ four 7 ++ four type ++ four start ++ four last ++ four 0 ++ four 0)
 
 abbrev pub sampler : ℕ → ℕ → ℕ → List ℕ
-sampler kind start last = counting 1 kind start last
+sampler type start last = counting 1 type start last
 
 -- ---- what a file comes to
 
@@ -90,7 +90,9 @@ files =
     -- 20 too: a format chunk of fewer than sixteen bytes, also a second one; a sampler of fewer than 36, or that counts more loops than it has
     ∷ (answers (whole (chunk fmt (two 1 ++ two 1) ++ two-samples)) 10 3, 20)
     ∷ (here (chunk fmt (two 1 ++ two 1)), 20)
-    ∷ (here (chunk smpl (replicate 34 0)), 20)
+    ∷ (answers (whole (chunk fmt (two 1 ++ two 1 ++ replicate 10 0 ++ (16 ∷ [])) ++ (0 ∷ []) ++ two-samples)) 10 3, 20)
+    ∷ (here (chunk smpl (replicate 35 0) ++ (0 ∷ [])), 20)
+    ∷ (here (chunk smpl (replicate 36 0)), 0)
     ∷ (here (counting 2 0 0 1), 20)
     -- a later sampler chunk may be anything
     ∷ (here (sampler 0 0 1 ++ chunk smpl (1 ∷ 2 ∷ [])), 0)
@@ -136,10 +138,15 @@ files =
     ∷ []
 
 pub files-hold : map (λ (row : ℕ × ℕ). row .0) files ≡ map (λ (row : ℕ × ℕ). row .1) files
-unfolding files here answers little twos chunkAt isWhole before chunksFrom isHeaded reading isUnread listed named firstOf isOnce anyShort isMono16 isCut loopIn anyCut firstLoop startOf endOf bitsOf isBroken isMiscounted isOtherFormat isOutside hasNoPlace importAnswer imported bitOf withBit
+unfolding files here answers little twos chunkAt isWhole before chunksFrom isHeaded listing isUnreadable listed named firstOf isOnce anyShort isMono16 isCut loopIn firstCut firstLoop startOf endOf loopBits isBroken isMiscounted isOtherFormat isOutside hasNoPlace importAnswer imported bitOf withBit
 files-hold = refl
 
 -- the memory afterwards: the samples from the named word on, and every other word as it was
 pub memory-holds : importMemory (whole (mono ++ two-samples)) (replicate 6 9) 3 ≡ 9 ∷ 9 ∷ 9 ∷ 513 ∷ 1027 ∷ 9 ∷ []
-unfolding little twos chunkAt isWhole before chunksFrom isHeaded reading isUnread listed named firstOf isOnce anyShort isMono16 isCut loopIn anyCut firstLoop startOf endOf bitsOf isBroken isMiscounted isOtherFormat isOutside hasNoPlace importAnswer importMemory
+unfolding little twos chunkAt isWhole before chunksFrom isHeaded listing isUnreadable listed named firstOf isOnce anyShort isMono16 isCut loopIn firstCut firstLoop startOf endOf loopBits isBroken isMiscounted isOtherFormat isOutside hasNoPlace importAnswer importMemory
 memory-holds = refl
+
+-- and after a refusal as it was
+pub refused-holds : importMemory (whole (mono ++ two-samples ++ two-samples)) (replicate 6 9) 3 ≡ replicate 6 9
+unfolding little twos chunkAt isWhole before chunksFrom isHeaded listing isUnreadable listed named firstOf isOnce anyShort isMono16 isCut loopIn firstCut firstLoop startOf endOf loopBits isBroken isMiscounted isOtherFormat isOutside hasNoPlace importAnswer importMemory
+refused-holds = refl

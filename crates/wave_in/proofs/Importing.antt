@@ -114,9 +114,9 @@ module _ {file : List ℕ} {room word : ℕ} (p : Importable file room word) whe
 start-before : (count word : ℕ) (l : Loop) → isOutside count l ≡ false → startOf word l ≤ endOf word l
 unfolding isOutside startOf endOf
 start-before count word Absent h = omega arith
-start-before count word (Present kind start last) h =
-    let n = neither (leb count last) (ltb last start || ltb 2 kind) h in
-    let s = ltb-false last start (neither (ltb last start) (ltb 2 kind) (n .1) .0) in
+start-before count word (Present type start last) h =
+    let n = neither (leb count last) (ltb last start || ltb 2 type) h in
+    let s = ltb-false last start (neither (ltb last start) (ltb 2 type) (n .1) .0) in
     omega arith
 
 pub start-fits : {file : List ℕ} {room word : ℕ} → Importable file room word → startOf word (loopOf file (chunksOf file)) ≤ endOf word (loopOf file (chunksOf file))

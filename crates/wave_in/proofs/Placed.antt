@@ -18,7 +18,7 @@ use Rattle.wave.specs.declared.Loop.the-variants.{Absent, Present}
 pub end-whole : (word : ℕ) (l : Loop) → (k : ℕ) × (endOf word l ≡ k * WHOLE_SAMPLE)
 unfolding endOf
 end-whole word Absent = (0, refl)
-end-whole word (Present kind start last) = (word % BANK_WORDS + (last + 1), refl)
+end-whole word (Present type start last) = (word % BANK_WORDS + (last + 1), refl)
 
 pub end-test : (word : ℕ) (l : Loop) → ltb 4294967295 (endOf word l) ≡ leb (voiceRange END) (endOf word l)
 end-test word l =

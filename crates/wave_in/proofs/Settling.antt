@@ -14,7 +14,7 @@ use Rattle.chunks.specs.Chunks.{chunksOf, named, FORMAT, DATA, SAMPLER}
 use Rattle.chunks.specs.declared.Chunk.{Chunk}
 use Rattle.wave.specs.Wave.{isOnce, isMono16, loopOf, FORMAT-BYTES, isBroken}
 use Rattle.wave_in.specs.Import.{isMiscounted, isOtherFormat, isOutside, hasNoPlace, importAnswer}
-use Rattle.wave.specs.Parse.{foundOf, miscounted, anyCutOf, loopOfKept, InFile}
+use Rattle.wave.specs.Parse.{foundOf, foundMiscounted, firstCutOf, loopOfKept, InFile}
 use Rattle.wave_in.specs.Steps.{settledOf}
 use Rattle.wave.specs.declared.Loop.{Loop}
 use Rattle.wave.specs.declared.Found.{Found}
@@ -43,9 +43,9 @@ module _ (file : List ℕ) (room word : ℕ) where
       unfolding settledOf importAnswer
       miscounted-so m = rw (le-ltb MOST_MEMORY_WORDS room small, b, m)
 
--- ---- what was counted
+-- ---- what was timesOf
 
-same-count : (cs : List Chunk) → miscounted (foundOf cs) ≡ isMiscounted cs
+same-count : (cs : List Chunk) → foundMiscounted (foundOf cs) ≡ isMiscounted cs
 unfolding isMiscounted
 same-count cs = rw (kept-once (named FORMAT cs), kept-once (named DATA cs))
 
@@ -53,8 +53,8 @@ once-both : (cs : List Chunk) → isMiscounted cs ≡ false → (isOnce (named F
 unfolding isMiscounted
 once-both cs h = and-eq-true-iff (isOnce (named FORMAT cs)) (isOnce (named DATA cs)) .0 (not-false (isOnce (named FORMAT cs) && isOnce (named DATA cs)) h)
 
-pub count-is : (file : List ℕ) (f : Found) (t : Bool) → f ≡ foundOf (chunksOf file) → t ≡ miscounted f → isMiscounted (chunksOf file) ≡ t
-count-is file f t e m = sym (m ∙ ap miscounted e ∙ same-count (chunksOf file))
+pub count-is : (file : List ℕ) (f : Found) (t : Bool) → f ≡ foundOf (chunksOf file) → t ≡ foundMiscounted f → isMiscounted (chunksOf file) ≡ t
+count-is file f t e m = sym (m ∙ ap foundMiscounted e ∙ same-count (chunksOf file))
 
 -- ---- the answers once format and data are there, each once
 
@@ -71,50 +71,50 @@ module _ {file : List ℕ} {room : ℕ} {found : Found} (g : Ready file room fou
       let s = not-broken file (g .unbroken) in
       rw (g .found-is) (named-in file s FORMAT, format-full file s (once-both (chunksOf file) (g .counted) .0))
 
-  pub sampler-ready : InFile file (found .sampler .first) × (anyCutOf file (found .sampler) ≡ false)
+  pub sampler-ready : InFile file (found .sampler .first) × (firstCutOf file (found .sampler) ≡ false)
   sampler-ready =
       let s = not-broken file (g .unbroken) in
       rw (g .found-is) (named-in file s SAMPLER, sampler-uncut file s)
 
-  pub data-small : found .sound .first .size / 2 ≤ 65536
+  pub data-small : found .pcm .first .size / 2 ≤ 65536
   data-small =
       let s = not-broken file (g .unbroken) in
-      let i : InFile file (found .sound .first) = rw (g .found-is) (named-in file s DATA) in
+      let i : InFile file (found .pcm .first) = rw (g .found-is) (named-in file s DATA) in
       let f = s .row .few in
       omega arith
 
   module _ (word : ℕ) (mono : Bool) (is-mono : mono ≡ isMono16 file (found .format .first)) where
-    same-format : (not mono || eqb (found .sound .first .size % 2) 1) ≡ isOtherFormat file (chunksOf file)
+    same-format : (not mono || eqb (found .pcm .first .size % 2) 1) ≡ isOtherFormat file (chunksOf file)
     unfolding isOtherFormat
     same-format = rw (is-mono, g .found-is)
 
     -- the tests so far: the lent memory, the file, the two chunks
-    so-far : (t : Bool) → (not mono || eqb (found .sound .first .size % 2) 1) ≡ t → importAnswer file room word
+    so-far : (t : Bool) → (not mono || eqb (found .pcm .first .size % 2) 1) ≡ t → importAnswer file room word
         ≡ firstRefusal
         ((t, SampleFormat)
-        ∷ (isOutside (found .sound .first .size / 2) (loopOf file (chunksOf file)), LoopInvalid)
-        ∷ (hasNoPlace room word (found .sound .first .size / 2) (loopOf file (chunksOf file)), NoPlace)
+        ∷ (isOutside (found .pcm .first .size / 2) (loopOf file (chunksOf file)), LoopInvalid)
+        ∷ (hasNoPlace room word (found .pcm .first .size / 2) (loopOf file (chunksOf file)), NoPlace)
         ∷ [])
     unfolding importAnswer
     so-far t e = rw (le-ltb MOST_MEMORY_WORDS room (g .small), g .unbroken, g .counted, ← same-format, e, g .found-is)
 
-    pub other-format : (not mono || eqb (found .sound .first .size % 2) 1) ≡ true → Refused SampleFormat ≡ settledOf file room word
+    pub other-format : (not mono || eqb (found .pcm .first .size % 2) 1) ≡ true → Refused SampleFormat ≡ settledOf file room word
     unfolding settledOf
     other-format o = rw (so-far true o)
 
-    module _ (o : (not mono || eqb (found .sound .first .size % 2) 1) ≡ false) (l : Loop) (first : l ≡ loopOfKept file (found .sampler)) where
+    module _ (o : (not mono || eqb (found .pcm .first .size % 2) 1) ≡ false) (l : Loop) (first : l ≡ loopOfKept file (found .sampler)) where
       its-loop : loopOf file (chunksOf file) ≡ l
       its-loop = sym (first ∙ rw (g .found-is) (kept-loop file (named SAMPLER (chunksOf file))))
 
-      pub outside : isOutside (found .sound .first .size / 2) l ≡ true → Refused LoopInvalid ≡ settledOf file room word
+      pub outside : isOutside (found .pcm .first .size / 2) l ≡ true → Refused LoopInvalid ≡ settledOf file room word
       unfolding settledOf
       outside i = rw (so-far false o, its-loop, i)
 
-      module _ (i : isOutside (found .sound .first .size / 2) l ≡ false) where
-        pub no-place : hasNoPlace room word (found .sound .first .size / 2) l ≡ true → Refused NoPlace ≡ settledOf file room word
+      module _ (i : isOutside (found .pcm .first .size / 2) l ≡ false) where
+        pub no-place : hasNoPlace room word (found .pcm .first .size / 2) l ≡ true → Refused NoPlace ≡ settledOf file room word
         unfolding settledOf
         no-place p = rw (so-far false o, its-loop, i, p)
 
-        pub fine : hasNoPlace room word (found .sound .first .size / 2) l ≡ false → Taken (found .sound .first) l ≡ settledOf file room word
+        pub fine : hasNoPlace room word (found .pcm .first .size / 2) l ≡ false → Taken (found .pcm .first) l ≡ settledOf file room word
         unfolding settledOf
         fine p = rw (so-far false o, its-loop, i, p, g .found-is)

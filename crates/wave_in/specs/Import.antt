@@ -17,7 +17,7 @@ use Rattle.chunks.specs.declared.Chunk.{Chunk}
 use Rattle.wave.specs.Wave.{isOnce, formatOf, isMono16, dataOf, countOf, samplesOf, loopOf, isBroken}
 use Rattle.wave.specs.declared.Loop.{Loop}
 use Rattle.wave.specs.declared.Loop.the-variants.{Absent, Present}
-use Rattle.wave_in.specs.Registers.{startOf, endOf, bitsOf}
+use Rattle.wave_in.specs.Registers.{startOf, endOf, loopBits}
 use Rattle.wave_in.specs.declared.Imported.{Imported}
 
 -- ---- refusals; room is how many words are lent, and word the one that the caller names
@@ -35,7 +35,7 @@ isOtherFormat file cs = not (isMono16 file (formatOf cs)) || eqb (dataOf cs .siz
 -- 23: a loop that is outside the data, ends before its start, or is of another type
 unfoldable pub isOutside : ℕ → Loop → Bool
 isOutside count Absent = false
-isOutside count (Present kind start last) = leb count last || (ltb last start || ltb 2 kind)
+isOutside count (Present type start last) = leb count last || (ltb last start || ltb 2 type)
 
 -- 24: the samples would cross the end of the lent memory or of a bank, or END would not fit its register
 unfoldable pub hasNoPlace : ℕ → ℕ → ℕ → Loop → Bool
@@ -63,7 +63,7 @@ abbrev pub refusedBy : Answer → Imported
 refusedBy a = record { answer = a; start = 0; end = 0; bits = 0; samples = 0 }
 
 abbrev pub takenAt : ℕ → Chunk → Loop → Imported
-takenAt word sound l = record { answer = Done; start = startOf word l; end = endOf word l; bits = bitsOf l; samples = countOf sound }
+takenAt word pcm l = record { answer = Done; start = startOf word l; end = endOf word l; bits = loopBits l; samples = countOf pcm }
 
 unfoldable pub imported : List ℕ → ℕ → ℕ → Imported
 imported file room word =

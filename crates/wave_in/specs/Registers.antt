@@ -14,20 +14,20 @@ registerAt word sample = (word % BANK_WORDS + sample) * WHOLE_SAMPLE
 
 unfoldable pub startOf : ℕ → Loop → ℕ
 startOf word Absent = 0
-startOf word (Present kind start last) = registerAt word start
+startOf word (Present type start last) = registerAt word start
 
 -- one whole sample past the last one of the loop
 unfoldable pub endOf : ℕ → Loop → ℕ
 endOf word Absent = 0
-endOf word (Present kind start last) = registerAt word (last + 1)
+endOf word (Present type start last) = registerAt word (last + 1)
 
 -- the loop bits at their places in CR, by the loop's type
 --   0  one-directional                 LPE
 --   1  bidirectional                   LPE, BLE
 --   2  one-directional, in reverse     LPE, DIR
 abbrev pub typeBits : ℕ → ℕ
-typeBits kind = let one = withBit LPE 1 0 in cond (eqb kind 1) (withBit BLE 1 one) (cond (eqb kind 2) (withBit DIR 1 one) one)
+typeBits type = let one = withBit LPE 1 0 in cond (eqb type 1) (withBit BLE 1 one) (cond (eqb type 2) (withBit DIR 1 one) one)
 
-unfoldable pub bitsOf : Loop → ℕ
-bitsOf Absent = 0
-bitsOf (Present kind start last) = typeBits kind
+unfoldable pub loopBits : Loop → ℕ
+loopBits Absent = 0
+loopBits (Present type start last) = typeBits type

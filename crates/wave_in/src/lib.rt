@@ -4,18 +4,22 @@
 //
 // Time: a round of the copy takes two bytes, so there are at most 32,746, beside the rounds over the file's chunks. There is no other loop.
 ghost use mathlib.Core.Path.{_≡_};
-ghost use Prim.Native.Nat.{_*_, _≤_, _<_};
+ghost use Prim.Native.Nat.{_*_, _^_, _≤_, _<_};
 ghost use lib.ListN.{length};
 ghost use Rattle.layout.specs.Parts.{withPart};
 ghost use Rattle.layout.specs.Bytes.{little, twos};
+ghost use Rattle.chunks.specs.Chunks.{MOST_FILE_BYTES};
 ghost use Rattle.wave.specs.Wave.{samplesOf};
-ghost use Rattle.wave_in.specs.Registers.{registerAt, startOf, endOf, typeBits, bitsOf};
+ghost use Rattle.wave_in.specs.Registers.{registerAt, startOf, endOf, typeBits, loopBits};
 ghost use Rattle.wave_in.specs.Import.{isOutside, hasNoPlace, refusedBy, takenAt, Imports};
 ghost use Rattle.wave_in.specs.Steps.{settledOf, Placeable};
 use answer::Answer;
 use chunks::Chunk;
 use wave::Loop;
 use wave::Parsed;
+
+// The greatest number of 32 bits: an END that is greater, which counts whole samples, does not fit its register.
+const GREATEST_REGISTER: usize = 4294967295;
 
 // What an import answers. In a refusal all but the answer is 0; without a loop START, END and the bits are.
 pub struct Imported {
@@ -32,7 +36,7 @@ pub struct Imported {
 // What an import comes to: why it is refused, or the samples' chunk and the loop.
 pub enum Settled {
     Refused(Answer),
-    Taken { sound: Chunk, first: Loop },
+    Taken { pcm: Chunk, looped: Loop },
 }
 
 pub fn import(file: &[u8], memory: &mut [u16], word: usize) -> Imported
@@ -40,9 +44,9 @@ pub fn import(file: &[u8], memory: &mut [u16], word: usize) -> Imported
 {
     match settle(file, memory.len(), word) {
         Settled::Refused(a) => refused(a),
-        Settled::Taken { sound, first } => {
-            fill(file, sound, memory, word);
-            taken(word, sound, first)
+        Settled::Taken { pcm, looped } => {
+            fill(file, pcm, memory, word);
+            taken(word, pcm, looped)
         }
     }
 }
@@ -59,18 +63,18 @@ fn refused(answer: Answer) -> Imported
     }
 }
 
-fn taken(word: usize, sound: Chunk, first: Loop) -> Imported
-    requires { ⌜ startOf word first < 4294967296 ⌝ }
-    requires { ⌜ endOf word first < 4294967296 ⌝ }
-    requires { ⌜ sound .size < 4294967296 ⌝ }
-    ensures { λ r. ⌜ r ≡ takenAt word sound first ⌝ }
+fn taken(word: usize, pcm: Chunk, looped: Loop) -> Imported
+    requires { ⌜ startOf word looped < 2 ^ 32 ⌝ }
+    requires { ⌜ endOf word looped < 2 ^ 32 ⌝ }
+    requires { ⌜ pcm .size < 2 ^ 32 ⌝ }
+    ensures { λ r. ⌜ r ≡ takenAt word pcm looped ⌝ }
 {
     Imported {
         answer: Answer::Done,
-        start: start_of(word, first) as u32,
-        end: end_of(word, first) as u32,
-        bits: bits_of(first),
-        samples: (sound.size / 2) as u32,
+        start: start_of(word, looped) as u32,
+        end: end_of(word, looped) as u32,
+        bits: loop_bits(looped),
+        samples: (pcm.size / 2) as u32,
     }
 }
 
@@ -88,19 +92,19 @@ fn settle(file: &[u8], room: usize, word: usize) -> Settled
         return Settled::Refused(Answer::ChunkCount);
     }
     let format = found.format.first;
-    let sound = found.sound.first;
-    if !wave::is_mono16(file, format) | (sound.size % 2 == 1) {
+    let pcm = found.pcm.first;
+    if !wave::is_mono16(file, format) | (pcm.size % 2 == 1) {
         return Settled::Refused(Answer::SampleFormat);
     }
     let sampler = found.sampler;
-    let first = wave::first_loop(file, sampler);
-    if is_outside(sound.size / 2, first) {
+    let looped = wave::first_loop(file, sampler);
+    if is_outside(pcm.size / 2, looped) {
         return Settled::Refused(Answer::LoopInvalid);
     }
-    if has_no_place(room, word, sound.size / 2, first) {
+    if has_no_place(room, word, pcm.size / 2, looped) {
         return Settled::Refused(Answer::NoPlace);
     }
-    Settled::Taken { sound, first }
+    Settled::Taken { pcm, looped }
 }
 
 // ---- the loop as registers
@@ -111,7 +115,7 @@ fn start_of(word: usize, l: Loop) -> usize
     match l {
         Loop::Absent => 0,
         Loop::Present {
-            kind: _,
+            form: _,
             start,
             last: _,
         } => register_at(word, start as usize),
@@ -124,7 +128,7 @@ fn end_of(word: usize, l: Loop) -> usize
     match l {
         Loop::Absent => 0,
         Loop::Present {
-            kind: _,
+            form: _,
             start: _,
             last,
         } => register_at(word, last as usize + 1),
@@ -132,33 +136,33 @@ fn end_of(word: usize, l: Loop) -> usize
 }
 
 fn register_at(word: usize, sample: usize) -> usize
-    requires { ⌜ sample ≤ 4294967296 ⌝ }
+    requires { ⌜ sample ≤ 2 ^ 32 ⌝ }
     ensures { λ r. ⌜ r ≡ registerAt word sample ⌝ }
 {
     (word % sample::BANK_WORDS as usize + sample) * sample::WHOLE_SAMPLE as usize
 }
 
-fn bits_of(l: Loop) -> u32
-    ensures { λ r. ⌜ r ≡ bitsOf l ⌝ }
+fn loop_bits(l: Loop) -> u32
+    ensures { λ r. ⌜ r ≡ loopBits l ⌝ }
 {
     match l {
         Loop::Absent => 0,
         Loop::Present {
-            kind,
+            form,
             start: _,
             last: _,
-        } => type_bits(kind),
+        } => type_bits(form),
     }
 }
 
-fn type_bits(kind: u32) -> u32
-    ensures { λ r. ⌜ r ≡ typeBits kind ⌝ }
+fn type_bits(form: u32) -> u32
+    ensures { λ r. ⌜ r ≡ typeBits form ⌝ }
 {
     let one = control::with_bit(control::LPE, 1, 0);
-    if kind == 1 {
+    if form == 1 {
         return control::with_bit(control::BLE, 1, one);
     }
-    if kind == 2 {
+    if form == 2 {
         return control::with_bit(control::DIR, 1, one);
     }
     one
@@ -171,14 +175,14 @@ fn is_outside(count: usize, l: Loop) -> bool
 {
     match l {
         Loop::Absent => false,
-        Loop::Present { kind, start, last } => (count <= last as usize)
-            | ((last < start) | (2 < kind)),
+        Loop::Present { form, start, last } => (count <= last as usize)
+            | ((last < start) | (2 < form)),
     }
 }
 
 // The named word may be any number, so that its sum with the count might not fit: the count is taken from the room.
 fn has_no_place(room: usize, word: usize, count: usize, l: Loop) -> bool
-    requires { ⌜ count ≤ 65536 ⌝ }
+    requires { ⌜ count ≤ MOST_FILE_BYTES ⌝ }
     ensures { λ r. ⌜ r ≡ hasNoPlace room word count l ⌝ }
 {
     if room < count {
@@ -188,19 +192,19 @@ fn has_no_place(room: usize, word: usize, count: usize, l: Loop) -> bool
         return true;
     }
     let bank = sample::BANK_WORDS as usize;
-    (bank < word % bank + count) | (4294967295 < end_of(word, l))
+    (bank < word % bank + count) | (GREATEST_REGISTER < end_of(word, l))
 }
 
 // ---- the samples
 
 // The samples of a chunk into the memory, from a word on.
-fn fill(file: &[u8], sound: Chunk, memory: &mut [u16], word: usize)
-    requires { ⌜ Placeable (now file) sound (length (now memory)) word ⌝ }
-    ensures { λ _. ⌜ now (memory .exit) ≡ withPart (now (memory .entry)) word (samplesOf (now (file .entry)) sound) ⌝ }
+fn fill(file: &[u8], pcm: Chunk, memory: &mut [u16], word: usize)
+    requires { ⌜ Placeable (now file) pcm (length (now memory)) word ⌝ }
+    ensures { λ _. ⌜ now (memory .exit) ≡ withPart (now (memory .entry)) word (samplesOf (now (file .entry)) pcm) ⌝ }
 {
-    let from = sound.place;
-    let to = from + sound.size;
-    let end = word + sound.size / 2;
+    let from = pcm.place;
+    let to = from + pcm.size;
+    let end = word + pcm.size / 2;
     copy(&mut memory[word..end], &file[from..to]);
 }
 

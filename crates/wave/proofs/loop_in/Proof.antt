@@ -12,14 +12,14 @@ use Rattle.wave.proofs.loop_in.Statement.{statement}
 use Rattle.wave.proofs.loop_in.Tie as tie
 
 -- the loops that it counts lie in it
-counted : (file : List ℕ) (c : Chunk) → isCut file c ≡ false → SAMPLER-BYTES + LOOP-BYTES * loopsOf file c ≤ c .size
+has-loops : (file : List ℕ) (c : Chunk) → isCut file c ≡ false → SAMPLER-BYTES + LOOP-BYTES * loopsOf file c ≤ c .size
 unfolding isCut
-counted file c h = ltb-false (c .size) (SAMPLER-BYTES + LOOP-BYTES * loopsOf file c) h
+has-loops file c h = ltb-false (c .size) (SAMPLER-BYTES + LOOP-BYTES * loopsOf file c) h
 
 little4-at-requires : tie.Need-little4-at-requires
 little4-at-requires c κs =
     let s = c .before in
-    omega (arith, counted (s .args .file .now) (s .args .c) (s .pre .1))
+    omega (arith, has-loops (s .args .file .now) (s .args .c) (s .pre .1))
 
 returns : tie.Need-returns
 unfolding loopIn
@@ -28,17 +28,17 @@ returns c = rw (← (c .before .little4-at .ensures), c .if1 .taken)
 little4-at-requires-2 : tie.Need-little4-at-requires-2
 little4-at-requires-2 c κs =
     let s = c .before .before .before in
-    omega (arith, counted (s .args .file .now) (s .args .c) (s .pre .1), c .before .little4-at .ensures)
+    omega (arith, has-loops (s .args .file .now) (s .args .c) (s .pre .1), c .before .little4-at .ensures)
 
 little4-at-requires-3 : tie.Need-little4-at-requires-3
 little4-at-requires-3 c κs =
     let s = c .before .before .before .before in
-    omega (arith, counted (s .args .file .now) (s .args .c) (s .pre .1), c .before .before .little4-at .ensures)
+    omega (arith, has-loops (s .args .file .now) (s .args .c) (s .pre .1), c .before .before .little4-at .ensures)
 
 little4-at-requires-4 : tie.Need-little4-at-requires-4
 little4-at-requires-4 c κs =
     let s = c .before .before .before .before .before in
-    omega (arith, counted (s .args .file .now) (s .args .c) (s .pre .1), c .before .before .before .little4-at .ensures)
+    omega (arith, has-loops (s .args .file .now) (s .args .c) (s .pre .1), c .before .before .before .little4-at .ensures)
 
 returns-2 : tie.Need-returns-2
 unfolding loopIn

@@ -8,7 +8,7 @@ returns : tie.Need-returns
 returns c =
     let t = c .before .before in
     let s = t .before .before .before .before .before .before .before in
-    put-back (s .args .file .now) (s .args .memory .now) (s .args .sound) (s .args .word) (s .pre) (t .copy .last .0) (t .copy .ensures)
+    put-back (s .args .file .now) (s .args .memory .now) (s .args .pcm) (s .args .word) (s .pre) (t .copy .last .0) (t .copy .ensures)
 
 pub fill-spec : {M : Type 1} → statement M
 fill-spec =

@@ -13,18 +13,18 @@ use Rattle.wave_in.proofs.Importing.{was-refused, was-taken, importable
 use Rattle.wave_in.proofs.import.Statement.{statement}
 use Rattle.wave_in.proofs.import.Tie as tie
 
-abbrev Told : tie.After-sound → Type 0
+abbrev Told : tie.After-pcm → Type 0
 Told t =
     let a = t .before .before .before .before .before .args in
     (isDone (importAnswer (a .file .now) (length (a .memory .now)) (a .word)) ≡ true)
-    × (t .sound .given .0 .0 ≡ dataOf (chunksOf (a .file .now)))
-    × (t .sound .given .0 .1 .0 ≡ loopOf (a .file .now) (chunksOf (a .file .now)))
+    × (t .pcm .given .0 .0 ≡ dataOf (chunksOf (a .file .now)))
+    × (t .pcm .given .0 .1 .0 ≡ loopOf (a .file .now) (chunksOf (a .file .now)))
 
-told : (t : tie.After-sound) → Told t
+told : (t : tie.After-pcm) → Told t
 told t =
     let s = t .before .before in
     let a = s .before .before .before .args in
-    was-taken (a .file .now) (length (a .memory .now)) (a .word) (s .settle .result) (s .settle .ensures) (t .sound .given .0 .0) (t .sound .given .0 .1 .0) (t .sound .given .1)
+    was-taken (a .file .now) (length (a .memory .now)) (a .word) (s .settle .result) (s .settle .ensures) (t .pcm .given .0 .0) (t .pcm .given .0 .1 .0) (t .pcm .given .1)
 
 fill-requires : tie.Need-fill-requires
 fill-requires c κs =
