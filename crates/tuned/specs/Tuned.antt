@@ -21,7 +21,7 @@ use Rattle.voice.specs.Tune.{turnsOf, Kind, Forward, Reverse, Bidirectional, pe
 abbrev pub loopSamples : ℕ → ℕ → ℕ
 loopSamples start last = last + 1 - start
 
--- by the loop's type: the type of loop that a voice plays, and the samples of one round of a loop of n
+-- by the loop's type in the file: the kind of loop that a voice plays, and the samples of one round of a loop of n
 abbrev pub kindOf : ℕ → Kind
 kindOf type = cond (eqb type 1) Bidirectional (cond (eqb type 2) Reverse Forward)
 

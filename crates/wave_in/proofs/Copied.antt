@@ -25,7 +25,7 @@ one-more v w i x h k e =
 pub all-copied : (v w : List ℕ) (i : ℕ) → length v ≡ length w → length w ≤ i → take i v ++ drop i w ≡ v
 all-copied v w i e h = rw (take-all i v (omega arith), drop-of-length-le w h, append-nil v)
 
--- as many samples as were timesOf
+-- as many samples as are counted
 pub samples-length : (file : List ℕ) (c : Chunk) (room word : ℕ) → Placeable file c room word → length (samplesOf file c) ≡ countOf c
 samples-length file c room word p = twos-length little (part file (c .place) (c .size)) (countOf c) (part-length file (c .place) (c .size) (p .inside) ∙ p .even)
 

@@ -32,7 +32,7 @@ use Rattle.wave_in.proofs.Importing.{importable, placeable, end-fits, s
 pub one-import : {file memory : List ℕ} {word : ℕ} {r s : Imported} {x y : List ℕ} → Imports file memory word r x → Imports file memory word s y → (r ≡ s) × (x ≡ y)
 one-import p q = (p .answers ∙ sym (q .answers), p .leaves ∙ sym (q .leaves))
 
--- the answer is the first of the refusals
+-- what is answered is done exactly where the tests say so
 answer-by : (t : Bool) (x y : Imported) → isDone (x .answer) ≡ true → isDone (y .answer) ≡ t → isDone (cond t x y .answer) ≡ t
 answer-by true x y e f = e
 answer-by false x y e f = f

@@ -43,7 +43,7 @@ module _ (file : List ℕ) (room word : ℕ) where
       unfolding settledOf importAnswer
       miscounted-so m = rw (le-ltb MOST_MEMORY_WORDS room small, b, m)
 
--- ---- what was timesOf
+-- ---- how often format and data are there
 
 same-count : (cs : List Chunk) → foundMiscounted (foundOf cs) ≡ isMiscounted cs
 unfolding isMiscounted

@@ -22,13 +22,13 @@ use Rattle.wave_in.specs.declared.Imported.{Imported}
 
 -- ---- refusals; room is how many words are lent, and word the one that the caller names
 
--- 20 is `isBroken`, of the file alone
+-- 5 is `tooManyWords`, of the memory alone, and 20 `isBroken`, of the file alone
 
 -- 21: format or data missing, or given twice
 unfoldable pub isMiscounted : List Chunk → Bool
 isMiscounted cs = not (isOnce (named FORMAT cs) && isOnce (named DATA cs))
 
--- 22: not mono 16-bit PCM, or an odd number of bytes of data
+-- 22: samples that are no 16-bit PCM of one channel, or of which the last lacks a byte
 unfoldable pub isOtherFormat : List ℕ → List Chunk → Bool
 isOtherFormat file cs = not (isMono16 file (formatOf cs)) || eqb (dataOf cs .size % 2) 1
 
