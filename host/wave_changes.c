@@ -197,17 +197,26 @@ static int change_huge(struct wave *wave)
     return 1;
 }
 
+static uint8_t copy[MOST_WAVE_BYTES];
+
+/* Copies a chunk, header and pad as well; how many bytes it has. */
+static uint32_t copy_chunk(const struct wave *wave, uint32_t chunk)
+{
+    uint32_t bytes = wave->places[chunk + 1] - wave->places[chunk];
+
+    memcpy(copy, wave->bytes + wave->places[chunk], bytes);
+    return bytes;
+}
+
 static int change_doubled(struct wave *wave)
 {
-    static uint8_t copy[MOST_WAVE_BYTES];
     uint32_t chunk;
     uint32_t bytes;
 
     if (!any_chunk(wave, &chunk)) {
         return 0;
     }
-    bytes = wave->places[chunk + 1] - wave->places[chunk];
-    memcpy(copy, wave->bytes + wave->places[chunk], bytes);
+    bytes = copy_chunk(wave, chunk);
     if (!put_in(wave, random_below(wave->chunks + 1), copy, bytes)) {
         return 0;
     }
@@ -229,15 +238,13 @@ static int change_dropped(struct wave *wave)
 
 static int change_moved(struct wave *wave)
 {
-    static uint8_t copy[MOST_WAVE_BYTES];
     uint32_t chunk;
     uint32_t bytes;
 
     if (!any_chunk(wave, &chunk)) {
         return 0;
     }
-    bytes = wave->places[chunk + 1] - wave->places[chunk];
-    memcpy(copy, wave->bytes + wave->places[chunk], bytes);
+    bytes = copy_chunk(wave, chunk);
     take_out(wave, chunk);
     return put_in(wave, random_below(wave->chunks + 1), copy, bytes);
 }
@@ -245,7 +252,6 @@ static int change_moved(struct wave *wave)
 /* The chunk is put together anew, with its pad where it has an odd length. */
 static int change_shortened(struct wave *wave)
 {
-    static uint8_t copy[MOST_WAVE_BYTES];
     uint32_t chunk;
     uint32_t bytes;
     uint32_t left;
