@@ -55,10 +55,11 @@ extern "C" {
 #define OTTO_CHUNK_COUNT   21u /* no format or data chunk, or two of one */
 #define OTTO_SAMPLE_FORMAT 22u /* the samples are not 16-bit PCM of one channel,
                                   or the last one lacks a byte */
-#define OTTO_LOOP_INVALID  23u /* the loop is outside the data, ends before its
-                                  start, or is of another type than 0, 1, 2 */
-#define OTTO_NO_PLACE      24u /* the samples would cross the end of memory or
-                                  of a bank, or END not fit its register */
+#define OTTO_LOOP_INVALID  23u /* a loop point is past the last sample, the last
+                                  one is before the first, or the type is
+                                  none of 0, 1, 2 */
+#define OTTO_NO_PLACE      24u /* memory or the bank ends before the samples do,
+                                  or END is more than its register holds */
 
 /* ---- the machine --------------------------------------------------------- */
 
@@ -149,27 +150,37 @@ int16_t otto_expand(uint8_t code);
  * 15 and 14 of its CR, and with CMPD 0.
  *
  * *start, *end, *loop and *samples, four places of their own, are always set,
- * to 0 where the call is refused. *samples is the number of samples. The other
- * three are what a voice needs for the file's loop: START and END, which count
- * from the bank's first word, and the loop bits of CR. They are register
- * values, to be written as they are:
+ * to 0 where the call is refused. *samples is the number of samples, which may
+ * be 0. The other three are what a voice needs for the file's loop. START and
+ * END count from the bank's first word and are written as they are; the loop
+ * bits are put into CR beside the voice's other bits, its bank among them:
  *
  *   type 0, one-directional               OTTO_CR_LPE
  *   type 1, there and back                OTTO_CR_LPE | OTTO_CR_BLE
  *   type 2, one-directional, in reverse   OTTO_CR_LPE | OTTO_CR_DIR
  *
  * A voice starts at the first sample, ACCUM (word % 2097152) * 2048, and comes
- * to the loop; in reverse it starts within the loop. END is one whole sample
- * past the last one of the loop, so a loop of n samples has a period of just n
- * samples (there and back 2n), where FC is at most n * 2048 and LEI is 0. The
- * voice also fetches the word at END: between the last sample and END it is
- * the second of the two that are blended. Where the loop ends with the data,
- * the import does not write that word: for the loop to close, a host puts the
- * loop's first sample there. Where memory ends there, the word is missing.
+ * to the loop; in reverse it starts within the loop, such as at END - 2048, the
+ * loop's last sample. END is one whole sample past that one, so a loop of n
+ * samples has a period of just n samples (there and back 2n), where FC is at
+ * most n * 2048 and LEI is 0.
  *
- * Where the file has no loop these three are 0, and say nothing of where the
- * samples are: a host sets START and END itself, such as END (word % 2097152 +
- * *samples - 1) * 2048, at which a voice with no loop bit stops.
+ * The voice also fetches the word at END: before END it is the second of the
+ * two that are blended, and a voice that comes to stand on END plays it alone.
+ * With bank = word - word % 2097152 it is memory[bank + *end / 2048]: the
+ * sample after the loop, or, where the loop ends with the data, a word that
+ * the import does not write. The loop closes where that word repeats
+ *
+ *   types 0 and 2   the loop's first sample, memory[bank + *start / 2048]
+ *   type 1          the loop's last, memory[bank + *end / 2048 - 1]
+ *
+ * and a host that wants this writes it there, so it keeps one word of the bank
+ * free behind the samples. Where memory ends there, the word is missing.
+ *
+ * Where the file has no loop the three are 0, and say nothing of where the
+ * samples are. A host then sets START and END itself: where there are samples,
+ * a voice with no loop bit stops after the last one at
+ * END (word % 2097152 + *samples - 1) * 2048.
  *
  * Chunks may stand in any order. Those of other names are skipped, and what
  * stands after the RIFF length is not looked at. Of the sampler chunks the

@@ -24,9 +24,9 @@ pub enum Answer {
     ChunkCount,
     // Samples that are not mono 16-bit PCM, or an odd number of bytes of them.
     SampleFormat,
-    // A loop outside the data, one that ends before its start, or one of another type.
+    // A loop with a point past the last sample, with its last before its start, or of no known type.
     LoopInvalid,
-    // Samples that would cross the end of the memory or of a bank, or an END that its register does not hold.
+    // Memory or a bank that ends before the samples do, or an END that its register does not hold.
     NoPlace,
 }
 

@@ -1,6 +1,6 @@
 -- A file is read as some chunks exactly where they stand in a row up to the end; so how many chunks are allowed for does not matter.
--- In order: where a whole chunk ends; one step of the listing; from the listing to the row, and back; what chunks in a row are: within the end, and
--- few. Assumes nothing.
+-- In order: where a whole chunk ends; one step of the listing; from the listing to the row, and back; that chunks in a row are few; the same of a
+-- whole file. Assumes nothing.
 use mathlib.Core.Path.{_≡_, refl, _∙_}
 use mathlib.Core.Bool.{true, cond, and-eq-true-iff}
 use mathlib.Core.List.{List, [], _∷_}
@@ -11,9 +11,10 @@ use borrow.Author.Tests.{lt-ltb, le-ltb, leb-true}
 use lib.Dec.{leb, ltb}
 use lib.ListN.{length}
 use Rattle.numbers.proofs.Tests.{split, cases}
-use Rattle.chunks.specs.Chunks.{Listing, unreadable, chunks, before, chunksFrom, chunkAt, next, isWhole, HEADER_BYTES}
+use Rattle.chunks.specs.Chunks.{Listing, unreadable, chunks, before, chunksFrom, chunkAt, next, isWhole, HEADER_BYTES, FIRST_CHUNK, riffEnd, isHeaded, listing}
 use Rattle.chunks.specs.Row.{InRow}
 use Rattle.chunks.specs.declared.Chunk.{Chunk}
+use Rattle.chunks.proofs.Headed.{headed-within}
 
 -- ---- a whole chunk
 
@@ -90,3 +91,14 @@ module _ (file : List ℕ) (end : ℕ) where
   row-few i (c ∷ cs) r =
       let g : i + HEADER_BYTES ≤ next c = rw (r .1) (goes-on file end i) in
       omega (arith, row-few (next c) cs (r .3))
+
+-- ---- the file
+
+module _ (file : List ℕ) (cs : List Chunk) (headed : isHeaded file ≡ true) where
+  pub listing-row : listing file ≡ chunks cs → InRow file (riffEnd file) FIRST_CHUNK cs
+  unfolding listing
+  listing-row e = read-in-row file (riffEnd file) (riffEnd file) FIRST_CHUNK cs (headed-within file headed .0) (omega arith) (rw headed at e)
+
+  pub row-listing : InRow file (riffEnd file) FIRST_CHUNK cs → listing file ≡ chunks cs
+  unfolding listing
+  row-listing r = rw headed (row-read file (riffEnd file) (riffEnd file) FIRST_CHUNK cs (omega arith) r)

@@ -94,12 +94,12 @@ isUnreadable unreadable = true
 isUnreadable (chunks cs) = false
 
 -- its chunks; none where it is unreadable
-unfoldable pub listed : Listing → List Chunk
-listed unreadable = []
-listed (chunks cs) = cs
+unfoldable pub chunksIn : Listing → List Chunk
+chunksIn unreadable = []
+chunksIn (chunks cs) = cs
 
 abbrev pub chunksOf : List ℕ → List Chunk
-chunksOf file = listed (listing file)
+chunksOf file = chunksIn (listing file)
 
 -- ---- the chunks of a name, in their order
 

@@ -15,7 +15,7 @@ unfoldable pub big : List ℕ → ℕ
 big [] = 0
 big (b ∷ bs) = b * 256 ^ length bs + big bs
 
--- at index i; what is missing where the list ends before counts as 0
+-- at index i; where the list ends before, of the bytes that are there
 abbrev pub little2At : List ℕ → ℕ → ℕ
 little2At xs i = little (part xs i 2)
 

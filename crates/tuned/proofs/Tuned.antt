@@ -14,10 +14,10 @@ use Rattle.answer.specs.Answer.{isDone}
 use Rattle.control.specs.Control.{bitOf, flagOf, withBit, runs, LEI, LPE, BLE, DIR}
 use Rattle.layout.specs.Bytes.{little, twos}
 use Rattle.sample.specs.Sample.{WHOLE_SAMPLE}
-use Rattle.chunks.specs.Chunks.{chunksOf, chunkAt, isWhole, before, chunksFrom, isHeaded, listing, isUnreadable, listed, named}
+use Rattle.chunks.specs.Chunks.{chunksOf, chunkAt, isWhole, before, chunksFrom, isHeaded, listing, isUnreadable, chunksIn, named}
 use Rattle.wave.specs.Wave.{dataOf, countOf, loopOf, firstOf, isOnce, anyShort, isMono16, isCut, loopIn, firstCut, firstLoop, isBroken}
 use Rattle.wave_in.specs.Registers.{registerAt, startOf, endOf, typeBits, loopBits}
-use Rattle.wave_in.specs.Import.{isOutside, importAnswer, takenAt, imported, isMiscounted, isOtherFormat, hasNoPlace}
+use Rattle.wave_in.specs.Import.{isLoopInvalid, importAnswer, takenAt, imported, isMiscounted, isOtherFormat, hasNoPlace}
 use Rattle.wave_in.specs.declared.Imported.{Imported}
 use Rattle.wave.specs.declared.Loop.the-variants.{Present}
 use Rattle.wave_in.proofs.Importing.{importable, end-fits}
@@ -31,19 +31,19 @@ use Rattle.tuned.specs.Tuned.{loopSamples, kindOf, roundSamples, Gets, P
 -- ---- the loop of an import that is done
 
 -- it starts at or before its last sample, and is of type 0, 1 or 2
-inside : (count type start last : ℕ) → isOutside count (Present type start last) ≡ false → (start ≤ last) × (type ≤ 2)
-unfolding isOutside
-inside count type start last h =
+valid-loop : (count type start last : ℕ) → isLoopInvalid count (Present type start last) ≡ false → (start ≤ last) × (type ≤ 2)
+unfolding isLoopInvalid
+valid-loop count type start last h =
     let n = neither (ltb last start) (ltb 2 type) (neither (leb count last) (ltb last start || ltb 2 type) h .1) in
     (ltb-false last start (n .0), ltb-false 2 type (n .1))
 
 -- ---- the bits and the period, by the loop's type
 
-mode-of : (type CR : ℕ) → type ≤ 2 → flagOf LPE CR ≡ flagOf LPE (typeBits type) → flagOf BLE CR ≡ flagOf BLE (typeBits type) → flagOf DIR CR ≡ flagOf DIR (typeBits type) → Mode (kindOf type) CR
+mode-of : (type CR : ℕ) → type ≤ 2 → flagOf LPE CR ≡ flagOf LPE (typeBits type) → flagOf BLE CR ≡ flagOf BLE (typeBits type) → (flagOf BLE (typeBits type) ≡ false → flagOf DIR CR ≡ flagOf DIR (typeBits type)) → Mode (kindOf type) CR
 unfolding flagOf bitOf withBit
-mode-of zero CR h l b d = (b, l, d)
+mode-of zero CR h l b d = (b, l, d refl)
 mode-of (suc zero) CR h l b d = (b, l)
-mode-of (suc (suc zero)) CR h l b d = (b, l, d)
+mode-of (suc (suc zero)) CR h l b d = (b, l, d refl)
 mode-of (suc (suc (suc type))) CR h l b d = absurd (omega arith)
 
 round-is : (type n : ℕ) (v : Voice) → type ≤ 2 → v .end ≡ v .start + n * WHOLE_SAMPLE → periodOf (kindOf type) v ≡ roundSamples type n * WHOLE_SAMPLE
@@ -59,7 +59,7 @@ pub imported-in-tune : ImportedInTune
 unfolding startOf endOf loopBits
 imported-in-tune file memory word r after p h type start last l v g q =
     let t = importable file (length memory) word (sym (same-done p) ∙ h) in
-    let i = inside (countOf (dataOf (chunksOf file))) type start last (rw l at (t .inside)) in
+    let i = valid-loop (countOf (dataOf (chunksOf file))) type start last (rw l at (t .loop)) in
     let k : r ≡ takenAt word (dataOf (chunksOf file)) (Present type start last) = rw l at (import-done p h) in
     let f : endOf word (Present type start last) < 4294967296 = omega (arith, rw l at (end-fits t)) in
     let s : v .start ≡ registerAt word start = g .start ∙ ap (λ (x : Imported). x .start) k in
@@ -70,7 +70,7 @@ imported-in-tune file memory word r after p h type start last l v g q =
     let loops : Loops (kindOf type) v = record {
       running = q .running;
       heeded = q .heeded;
-      mode = mode-of type (v .cr) (i .1) (g .loops ∙ ap (flagOf LPE) b) (g .both-ways ∙ ap (flagOf BLE) b) (g .direction ∙ ap (flagOf DIR) b);
+      mode = mode-of type (v .cr) (i .1) (g .loops ∙ ap (flagOf LPE) b) (g .both-ways ∙ ap (flagOf BLE) b) (λ e. g .direction (ap (flagOf BLE) b ∙ e) ∙ ap (flagOf DIR) b);
       from = q .from;
       to = q .to;
       length = omega arith;
@@ -110,7 +110,7 @@ pub record Speaks (type CR : ℕ) : Type 0 where
   pub plays : Plays (loopSamples 0 1) (at-start CR)
 
 pub speaks : Speaks 0 0x08 × Speaks 1 0x18 × Speaks 2 0x48
-unfolding runs flagOf bitOf withBit little twos chunkAt isWhole before chunksFrom isHeaded listing isUnreadable listed named firstOf isOnce anyShort isMono16 isCut loopIn firstCut firstLoop startOf endOf loopBits isBroken isMiscounted isOtherFormat isOutside hasNoPlace importAnswer imported
+unfolding runs flagOf bitOf withBit little twos chunkAt isWhole before chunksFrom isHeaded listing isUnreadable chunksIn named firstOf isOnce anyShort isMono16 isCut loopIn firstCut firstLoop startOf endOf loopBits isBroken isMiscounted isOtherFormat isLoopInvalid hasNoPlace importAnswer imported
 speaks = (by 0 0x08 refl refl refl refl (refl, refl, refl) refl refl, by 1 0x18 refl refl refl refl (refl, refl, refl) refl refl, by 2 0x48 refl refl refl refl (refl, refl, refl) refl refl)
   where
     by : (type CR : ℕ) → isDone (answered type .answer) ≡ true → loopOf (looped type) (chunksOf (looped type)) ≡ Present type 0 1 → 20480 ≡ answered type .start → 24576 ≡ answered type .end
@@ -119,6 +119,6 @@ speaks = (by 0 0x08 refl refl refl refl (refl, refl, refl) refl refl, by 1 0x18 
     by type CR d l s e f r h = record {
       done = d;
       its-loop = l;
-      gets = record { start = s; end = e; loops = f .0; both-ways = f .1; direction = f .2 };
+      gets = record { start = s; end = e; loops = f .0; both-ways = f .1; direction = λ e. f .2 };
       plays = record { running = r; heeded = h; from = omega arith; to = omega arith; pace = omega arith };
     }

@@ -28,13 +28,14 @@ kindOf type = cond (eqb type 1) Bidirectional (cond (eqb type 2) Reverse Forward
 abbrev pub roundSamples : ℕ → ℕ → ℕ
 roundSamples type n = cond (eqb type 1) (2 * n) n
 
--- The voice has START, END and the three loop bits of what was answered; the other bits of its control register are its own.
+-- The voice has START, END and the loop bits of what was answered; the other bits of its control register are its own. In a loop there and back the
+-- direction is the voice's own as well: it changes at each loop point.
 pub record Gets (r : Imported) (v : Voice) : Type 0 where
   pub start : v .start ≡ r .start
   pub end : v .end ≡ r .end
   pub loops : flagOf LPE (v .cr) ≡ flagOf LPE (r .bits)
   pub both-ways : flagOf BLE (v .cr) ≡ flagOf BLE (r .bits)
-  pub direction : flagOf DIR (v .cr) ≡ flagOf DIR (r .bits)
+  pub direction : flagOf BLE (r .bits) ≡ false → flagOf DIR (v .cr) ≡ flagOf DIR (r .bits)
 
 -- It runs, heeds its loop points and is within the loop, of n samples, and no step is longer than the loop.
 pub record Plays (n : ℕ) (v : Voice) : Type 0 where

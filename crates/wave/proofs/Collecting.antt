@@ -16,7 +16,7 @@ use Rattle.chunks.proofs.Row.{whole-before, goes-on, no-chunk, one-chunk}
 use Rattle.wave.specs.Wave.{isShort, anyShort}
 use Rattle.wave.specs.Parse.{foundOf, withChunk, collectedOf}
 use Rattle.wave.specs.declared.Found.{Found}
-use Rattle.wave.specs.declared.Parsed.the-variants.{Broken, Chunks}
+use Rattle.wave.specs.declared.Parsed.the-variants.{Broken, Unbroken}
 use Rattle.wave.proofs.Keeping.{found-more}
 
 -- ---- short format chunks
@@ -106,6 +106,6 @@ module _ {file : List ℕ} {end : ℕ} {found : Found} {i : ℕ} (p : Progress f
           within = rw (w .1 .1) b;
         }
 
-pub all-read : {file : List ℕ} {end : ℕ} {found : Found} {i : ℕ} → Progress file end found i → end ≤ i → Chunks found ≡ collectedOf (chunksFrom end file end FIRST_CHUNK)
+pub all-read : {file : List ℕ} {end : ℕ} {found : Found} {i : ℕ} → Progress file end found i → end ≤ i → Unbroken found ≡ collectedOf (chunksFrom end file end FIRST_CHUNK)
 unfolding joined collectedOf
 all-read {file} {end} {found} {i} p h = rw (p .so-far, no-chunk file end (p .left) i h, append-nil (p .done), p .full, p .keeps)

@@ -1,4 +1,4 @@
 pub mod Keeping
 pub mod Collecting
 pub mod Parsing
-pub mod Sound
+pub mod NotBroken

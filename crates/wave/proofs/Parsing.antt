@@ -7,48 +7,52 @@ use mathlib.Core.List.{List, [], _∷_}
 use Prim.Native.Nat.{ℕ, _≤_}
 use native.Mathlib.Omega.{arith}
 use lib.ListN.{length}
-use Rattle.chunks.specs.Chunks.{Listing, unreadable, chunks, chunksFrom, riffEnd, isHeaded, listing, isUnreadable, listed, chunksOf, named, SAMPLER, FIRST_CHUNK, MOST_FILE_BYTES}
+use Rattle.chunks.specs.Chunks.{Listing, unreadable, chunks, chunksFrom, riffEnd, isHeaded, listing, isUnreadable, chunksIn, chunksOf, named, SAMPLER, FIRST_CHUNK, MOST_FILE_BYTES}
 use Rattle.chunks.specs.Row.{InRow}
 use Rattle.chunks.specs.declared.Chunk.{Chunk}
 use Rattle.chunks.proofs.Headed.{headed-within}
-use Rattle.chunks.proofs.Row.{read-in-row}
+use Rattle.chunks.proofs.Row.{listing-row}
 use Rattle.chunks.proofs.Named.{Each, Before, row-before, each-named}
 use Rattle.wave.specs.Wave.{firstOf, anyShort, firstCut, isBroken}
 use Rattle.wave.specs.Parse.{foundOf, firstCutOf, collectedOf, parsedOf, InFile}
 use Rattle.wave.specs.declared.Found.{Found}
 use Rattle.wave.specs.declared.Parsed.{Parsed}
-use Rattle.wave.specs.declared.Parsed.the-variants.{Broken, Chunks}
+use Rattle.wave.specs.declared.Parsed.the-variants.{Broken, Unbroken}
 use Rattle.wave.proofs.Keeping.{kept-cut}
 
 -- ---- what the pass came to
 
-by-short : (t : Bool) (f : Found) → (r : Parsed) → r ≡ Broken → r ≡ cond t Broken (Chunks f) → t ≡ true
+by-short : (t : Bool) (f : Found) → (r : Parsed) → r ≡ Broken → r ≡ cond t Broken (Unbroken f) → t ≡ true
 by-short true f r e g = refl
 by-short false f r e g = absurd (let z : _≡_ {A = ℕ} 0 1 = cc in omega arith)
 
-by-found : (t : Bool) (f g : Found) → (r : Parsed) → r ≡ Chunks g → r ≡ cond t Broken (Chunks f) → (t ≡ false) × (g ≡ f)
+by-found : (t : Bool) (f g : Found) → (r : Parsed) → r ≡ Unbroken g → r ≡ cond t Broken (Unbroken f) → (t ≡ false) × (g ≡ f)
 by-found true f g r e h = absurd (let z : _≡_ {A = ℕ} 0 1 = cc in omega arith)
 by-found false f g r e h = (refl, cc)
 
-came-broken : (x : Listing) (r : Parsed) → r ≡ Broken → r ≡ collectedOf x → (b : Bool) → (isUnreadable x || (anyShort (listed x) || b)) ≡ true
-unfolding collectedOf isUnreadable listed
+came-broken : (x : Listing) (r : Parsed) → r ≡ Broken → r ≡ collectedOf x → (b : Bool) → (isUnreadable x || (anyShort (chunksIn x) || b)) ≡ true
+unfolding collectedOf isUnreadable chunksIn
 came-broken unreadable r e g b = refl
 came-broken (chunks cs) r e g b = rw (by-short (anyShort cs) (foundOf cs) r e g)
 
-came-found : (x : Listing) (r : Parsed) (f : Found) → r ≡ Chunks f → r ≡ collectedOf x → (isUnreadable x ≡ false) × ((anyShort (listed x) ≡ false) × (f ≡ foundOf (listed x)))
-unfolding collectedOf isUnreadable listed
+came-found : (x : Listing) (r : Parsed) (f : Found) → r ≡ Unbroken f → r ≡ collectedOf x → (isUnreadable x ≡ false) × ((anyShort (chunksIn x) ≡ false) × (f ≡ foundOf (chunksIn x)))
+unfolding collectedOf isUnreadable chunksIn
 came-found unreadable r f e g = absurd (let z : _≡_ {A = ℕ} 0 1 = cc in omega arith)
 came-found (chunks cs) r f e g = let b = by-found (anyShort cs) (foundOf cs) f r e g in (refl, (b .0, b .1))
 
 -- ---- a file that can be read as chunks
 
-read-by : (t : Bool) (r : Listing) → isUnreadable (cond t r unreadable) ≡ false → (t ≡ true) × (isUnreadable r ≡ false)
+read-by : (t : Bool) (r : Listing) → isUnreadable (cond t r unreadable) ≡ false → t ≡ true
 unfolding isUnreadable
-read-by true r h = (refl, h)
+read-by true r h = refl
 read-by false r h = absurd (false≢true (sym h))
 
-is-read : (r : Listing) → isUnreadable r ≡ false → r ≡ chunks (listed r)
-unfolding isUnreadable listed
+read-headed : (file : List ℕ) → isUnreadable (listing file) ≡ false → isHeaded file ≡ true
+unfolding listing
+read-headed file h = read-by (isHeaded file) (chunksFrom (riffEnd file) file (riffEnd file) FIRST_CHUNK) h
+
+is-read : (r : Listing) → isUnreadable r ≡ false → r ≡ chunks (chunksIn r)
+unfolding isUnreadable chunksIn
 is-read unreadable h = absurd (false≢true (sym h))
 is-read (chunks cs) h = refl
 
@@ -59,16 +63,10 @@ pub record InFileRow (file : List ℕ) : Type 0 where
   pub few : length file ≤ MOST_FILE_BYTES
 
 pub read-row : (file : List ℕ) → isUnreadable (listing file) ≡ false → InFileRow file
-unfolding listing
 read-row file h =
-    let t = read-by (isHeaded file) (chunksFrom (riffEnd file) file (riffEnd file) FIRST_CHUNK) h in
-    let w = headed-within file (t .0) in
-    let e = is-read (chunksFrom (riffEnd file) file (riffEnd file) FIRST_CHUNK) (t .1) in
-    record {
-      row = rw (t .0) (read-in-row file (riffEnd file) (riffEnd file) FIRST_CHUNK (listed (chunksFrom (riffEnd file) file (riffEnd file) FIRST_CHUNK)) (w .0) (omega arith) e);
-      within = w .1;
-      few = w .2;
-    }
+    let t = read-headed file h in
+    let w = headed-within file t in
+    record { row = listing-row file (chunksOf file) t (is-read (listing file) h); within = w .1; few = w .2 }
 
 within-file : (file : List ℕ) (end : ℕ) → end ≤ length file → (cs : List Chunk) → Each (Before end) cs → Each (InFile file) cs
 within-file file end h [] e = tt
@@ -103,7 +101,7 @@ module _ (file : List ℕ) where
     unfolding isBroken
     no-chunks e = is-broken (came-broken (listing file) r e whole-pass (firstCut file (named SAMPLER (chunksOf file))))
 
-    module _ (f : Found) (found : r ≡ Chunks f) where
+    module _ (f : Found) (found : r ≡ Unbroken f) where
       pub found-is : f ≡ foundOf (chunksOf file)
       found-is = came-found (listing file) r f found whole-pass .1 .1
 
@@ -119,7 +117,7 @@ module _ (file : List ℕ) where
           let c : firstCut file (named SAMPLER (chunksOf file)) ≡ true = sym (kept-cut file (named SAMPLER (chunksOf file))) ∙ rw found-is at t in
           is-broken (rw (w .0, w .1 .0, c))
 
-      pub all-there : firstCutOf file (f .sampler) ≡ false → Chunks f ≡ parsedOf file
+      pub all-there : firstCutOf file (f .sampler) ≡ false → Unbroken f ≡ parsedOf file
       unfolding isBroken parsedOf
       all-there t =
           let w = came-found (listing file) r f found whole-pass in
@@ -133,6 +131,6 @@ module _ (file : List ℕ) (r : Parsed) (parsed : r ≡ parsedOf file) where
   unfolding parsedOf
   was-broken e = by-short (isBroken file) (foundOf (chunksOf file)) r e parsed
 
-  pub was-found : (f : Found) → r ≡ Chunks f → (isBroken file ≡ false) × (f ≡ foundOf (chunksOf file))
+  pub was-found : (f : Found) → r ≡ Unbroken f → (isBroken file ≡ false) × (f ≡ foundOf (chunksOf file))
   unfolding parsedOf
   was-found f e = by-found (isBroken file) (foundOf (chunksOf file)) f r e parsed

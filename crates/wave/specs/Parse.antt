@@ -13,7 +13,7 @@ use Rattle.wave.specs.declared.Loop.the-variants.{Absent}
 use Rattle.wave.specs.declared.Kept.{Kept}
 use Rattle.wave.specs.declared.Found.{Found}
 use Rattle.wave.specs.declared.Parsed.{Parsed}
-use Rattle.wave.specs.declared.Parsed.the-variants.{Broken, Chunks}
+use Rattle.wave.specs.declared.Parsed.the-variants.{Broken, Unbroken}
 
 -- ---- what is kept of some chunks, and with one more
 
@@ -55,10 +55,10 @@ loopOfKept file k = cond (eqb (k .times) 0) Absent (loopIn file (k .first))
 
 unfoldable pub collectedOf : Listing → Parsed
 collectedOf unreadable = Broken
-collectedOf (chunks cs) = cond (anyShort cs) Broken (Chunks (foundOf cs))
+collectedOf (chunks cs) = cond (anyShort cs) Broken (Unbroken (foundOf cs))
 
 unfoldable pub parsedOf : List ℕ → Parsed
-parsedOf file = cond (isBroken file) Broken (Chunks (foundOf (chunksOf file)))
+parsedOf file = cond (isBroken file) Broken (Unbroken (foundOf (chunksOf file)))
 
 -- ---- what is asked of a chunk before its bytes are read: they lie in the file
 

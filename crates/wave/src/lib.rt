@@ -2,7 +2,7 @@
 // In order: the file, by one pass over its chunks; what is kept of them; the format; the sampler. No byte of the file is copied: what is found is
 // places in it.
 //
-// Time: a round of the pass goes on by eight bytes or more, so a file of 65,536 bytes has at most 8,190. There is no other loop.
+// Time: a round of the pass goes on by eight bytes or more, or is the last, so a file of 65,536 bytes has at most 8,191. There is no other loop.
 ghost use mathlib.Core.Path.{_≡_};
 ghost use mathlib.Core.Bool.{false};
 ghost use mathlib.Core.List.{[]};
@@ -48,7 +48,7 @@ pub struct Found {
 // What a file comes to.
 pub enum Parsed {
     Broken,
-    Chunks(Found),
+    Unbroken(Found),
 }
 
 pub fn parse(file: &[u8]) -> Parsed
@@ -57,14 +57,14 @@ pub fn parse(file: &[u8]) -> Parsed
     let Opened::Upto(end) = chunks::open(file) else {
         return Parsed::Broken;
     };
-    let Parsed::Chunks(found) = collect(file, end) else {
+    let Parsed::Unbroken(found) = collect(file, end) else {
         return Parsed::Broken;
     };
     let sampler = found.sampler;
     if first_cut(file, sampler) {
         return Parsed::Broken;
     }
-    Parsed::Chunks(found)
+    Parsed::Unbroken(found)
 }
 
 // One pass over the chunks.
@@ -85,7 +85,7 @@ fn collect(file: &[u8], end: usize) -> Parsed
         found = with_chunk(chunk, found);
         at = next;
     }
-    Parsed::Chunks(found)
+    Parsed::Unbroken(found)
 }
 
 fn is_short(c: Chunk) -> bool

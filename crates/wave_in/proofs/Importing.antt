@@ -20,7 +20,7 @@ use Rattle.chunks.specs.Chunks.{chunksOf, DATA}
 use Rattle.chunks.specs.declared.Chunk.{Chunk}
 use Rattle.wave.specs.Wave.{formatOf, dataOf, countOf, samplesOf, isMono16, loopOf, isBroken}
 use Rattle.wave_in.specs.Registers.{startOf, endOf}
-use Rattle.wave_in.specs.Import.{isMiscounted, isOtherFormat, isOutside, hasNoPlace, importTests, importAnswer, refusedBy, takenAt, imported, importMemory, Imports}
+use Rattle.wave_in.specs.Import.{isMiscounted, isOtherFormat, isLoopInvalid, hasNoPlace, importTests, importAnswer, refusedBy, takenAt, imported, importMemory, Imports}
 use Rattle.wave_in.specs.Steps.{settledOf, Placeable}
 use Rattle.wave.specs.Parse.{InFile}
 use Rattle.wave_in.specs.declared.Imported.{Imported}
@@ -28,7 +28,7 @@ use Rattle.wave.specs.declared.Loop.{Loop}
 use Rattle.wave.specs.declared.Loop.the-variants.{Absent, Present}
 use Rattle.wave_in.specs.declared.Settled.{Settled}
 use Rattle.wave_in.specs.declared.Settled.the-variants.{Refused, Taken}
-use Rattle.wave.proofs.Sound.{not-broken, named-in}
+use Rattle.wave.proofs.NotBroken.{not-broken, named-in}
 
 -- ---- what was settled
 
@@ -63,14 +63,14 @@ module _ (file : List ℕ) (room word : ℕ) where
     pub unbroken : isBroken file ≡ false
     pub counted : isMiscounted (chunksOf file) ≡ false
     pub format : isOtherFormat file (chunksOf file) ≡ false
-    pub inside : isOutside count (loopOf file (chunksOf file)) ≡ false
+    pub loop : isLoopInvalid count (loopOf file (chunksOf file)) ≡ false
     pub place : hasNoPlace room word count (loopOf file (chunksOf file)) ≡ false
 
   pub importable : isDone (importAnswer file room word) ≡ true → Importable
   unfolding importAnswer
   importable h =
       let n = none-holds (importTests file room word) (refl, (refl, (refl, (refl, (refl, (refl, tt)))))) h in
-      record { small = n .0; unbroken = n .1 .0; counted = n .1 .1 .0; format = n .1 .1 .1 .0; inside = n .1 .1 .1 .1 .0; place = n .1 .1 .1 .1 .1 .0 }
+      record { small = n .0; unbroken = n .1 .0; counted = n .1 .1 .0; format = n .1 .1 .1 .0; loop = n .1 .1 .1 .1 .0; place = n .1 .1 .1 .1 .1 .0 }
 
 even : (n : ℕ) → (n % 2 ≡ 1 → ⊥) → n ≡ 2 * (n / 2)
 even n h = omega arith
@@ -110,9 +110,9 @@ module _ {file : List ℕ} {room word : ℕ} (p : Importable file room word) whe
       let i = data-in-file in
       omega arith
 
--- a loop that is not outside starts before it ends
-start-before : (count word : ℕ) (l : Loop) → isOutside count l ≡ false → startOf word l ≤ endOf word l
-unfolding isOutside startOf endOf
+-- a loop that is valid starts before it ends
+start-before : (count word : ℕ) (l : Loop) → isLoopInvalid count l ≡ false → startOf word l ≤ endOf word l
+unfolding isLoopInvalid startOf endOf
 start-before count word Absent h = omega arith
 start-before count word (Present type start last) h =
     let n = neither (leb count last) (ltb last start || ltb 2 type) h in
@@ -120,7 +120,7 @@ start-before count word (Present type start last) h =
     omega arith
 
 pub start-fits : {file : List ℕ} {room word : ℕ} → Importable file room word → startOf word (loopOf file (chunksOf file)) ≤ endOf word (loopOf file (chunksOf file))
-start-fits {file} {room} {word} p = start-before (countOf (dataOf (chunksOf file))) word (loopOf file (chunksOf file)) (p .inside)
+start-fits {file} {room} {word} p = start-before (countOf (dataOf (chunksOf file))) word (loopOf file (chunksOf file)) (p .loop)
 
 -- ---- the promise
 

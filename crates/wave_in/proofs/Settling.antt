@@ -13,7 +13,7 @@ use Rattle.sample.specs.Sample.{MOST_MEMORY_WORDS}
 use Rattle.chunks.specs.Chunks.{chunksOf, named, FORMAT, DATA, SAMPLER}
 use Rattle.chunks.specs.declared.Chunk.{Chunk}
 use Rattle.wave.specs.Wave.{isOnce, isMono16, loopOf, FORMAT-BYTES, isBroken}
-use Rattle.wave_in.specs.Import.{isMiscounted, isOtherFormat, isOutside, hasNoPlace, importAnswer}
+use Rattle.wave_in.specs.Import.{isMiscounted, isOtherFormat, isLoopInvalid, hasNoPlace, importAnswer}
 use Rattle.wave.specs.Parse.{foundOf, foundMiscounted, firstCutOf, loopOfKept, InFile}
 use Rattle.wave_in.specs.Steps.{settledOf}
 use Rattle.wave.specs.declared.Loop.{Loop}
@@ -21,7 +21,7 @@ use Rattle.wave.specs.declared.Found.{Found}
 use Rattle.wave_in.specs.declared.Settled.{Settled}
 use Rattle.wave_in.specs.declared.Settled.the-variants.{Refused, Taken}
 use Rattle.wave.proofs.Keeping.{kept-once, kept-loop}
-use Rattle.wave.proofs.Sound.{not-broken, named-in, format-full, sampler-uncut}
+use Rattle.wave.proofs.NotBroken.{not-broken, named-in, format-full, sampler-uncut}
 
 -- ---- the answers
 
@@ -92,7 +92,7 @@ module _ {file : List ℕ} {room : ℕ} {found : Found} (g : Ready file room fou
     so-far : (t : Bool) → (not mono || eqb (found .pcm .first .size % 2) 1) ≡ t → importAnswer file room word
         ≡ firstRefusal
         ((t, SampleFormat)
-        ∷ (isOutside (found .pcm .first .size / 2) (loopOf file (chunksOf file)), LoopInvalid)
+        ∷ (isLoopInvalid (found .pcm .first .size / 2) (loopOf file (chunksOf file)), LoopInvalid)
         ∷ (hasNoPlace room word (found .pcm .first .size / 2) (loopOf file (chunksOf file)), NoPlace)
         ∷ [])
     unfolding importAnswer
@@ -106,11 +106,11 @@ module _ {file : List ℕ} {room : ℕ} {found : Found} (g : Ready file room fou
       its-loop : loopOf file (chunksOf file) ≡ l
       its-loop = sym (first ∙ rw (g .found-is) (kept-loop file (named SAMPLER (chunksOf file))))
 
-      pub outside : isOutside (found .pcm .first .size / 2) l ≡ true → Refused LoopInvalid ≡ settledOf file room word
+      pub loop-invalid : isLoopInvalid (found .pcm .first .size / 2) l ≡ true → Refused LoopInvalid ≡ settledOf file room word
       unfolding settledOf
-      outside i = rw (so-far false o, its-loop, i)
+      loop-invalid i = rw (so-far false o, its-loop, i)
 
-      module _ (i : isOutside (found .pcm .first .size / 2) l ≡ false) where
+      module _ (i : isLoopInvalid (found .pcm .first .size / 2) l ≡ false) where
         pub no-place : hasNoPlace room word (found .pcm .first .size / 2) l ≡ true → Refused NoPlace ≡ settledOf file room word
         unfolding settledOf
         no-place p = rw (so-far false o, its-loop, i, p)

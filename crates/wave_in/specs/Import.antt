@@ -32,12 +32,13 @@ isMiscounted cs = not (isOnce (named FORMAT cs) && isOnce (named DATA cs))
 unfoldable pub isOtherFormat : List ℕ → List Chunk → Bool
 isOtherFormat file cs = not (isMono16 file (formatOf cs)) || eqb (dataOf cs .size % 2) 1
 
--- 23: a loop that is outside the data, ends before its start, or is of another type
-unfoldable pub isOutside : ℕ → Loop → Bool
-isOutside count Absent = false
-isOutside count (Present type start last) = leb count last || (ltb last start || ltb 2 type)
+-- 23: a loop with a point past the last sample, with its last before its start, or of a type that is none of the three
+unfoldable pub isLoopInvalid : ℕ → Loop → Bool
+isLoopInvalid count Absent = false
+isLoopInvalid count (Present type start last) = leb count last || (ltb last start || ltb 2 type)
 
--- 24: the samples would cross the end of the lent memory or of a bank, or END would not fit its register
+-- 24: the lent memory or the bank ends before the samples do, or END is greater than its register's greatest value. (It is a number of whole
+-- samples, so that is where it has more than 32 bits.)
 unfoldable pub hasNoPlace : ℕ → ℕ → ℕ → Loop → Bool
 hasNoPlace room word count l = ltb room (word + count) || (ltb BANK_WORDS (word % BANK_WORDS + count) || leb (voiceRange END) (endOf word l))
 
@@ -50,7 +51,7 @@ importTests file room word =
     ∷ (isBroken file, FileBroken)
     ∷ (isMiscounted cs, ChunkCount)
     ∷ (isOtherFormat file cs, SampleFormat)
-    ∷ (isOutside count (loopOf file cs), LoopInvalid)
+    ∷ (isLoopInvalid count (loopOf file cs), LoopInvalid)
     ∷ (hasNoPlace room word count (loopOf file cs), NoPlace)
     ∷ []
 

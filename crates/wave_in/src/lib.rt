@@ -11,14 +11,14 @@ ghost use Rattle.layout.specs.Bytes.{little, twos};
 ghost use Rattle.chunks.specs.Chunks.{MOST_FILE_BYTES};
 ghost use Rattle.wave.specs.Wave.{samplesOf};
 ghost use Rattle.wave_in.specs.Registers.{registerAt, startOf, endOf, typeBits, loopBits};
-ghost use Rattle.wave_in.specs.Import.{isOutside, hasNoPlace, refusedBy, takenAt, Imports};
+ghost use Rattle.wave_in.specs.Import.{isLoopInvalid, hasNoPlace, refusedBy, takenAt, Imports};
 ghost use Rattle.wave_in.specs.Steps.{settledOf, Placeable};
 use answer::Answer;
 use chunks::Chunk;
 use wave::Loop;
 use wave::Parsed;
 
-// The greatest number of 32 bits: an END that is greater, which counts whole samples, does not fit its register.
+// The greatest number of 32 bits. END is a number of whole samples, so it fits its register exactly where it is not greater.
 const GREATEST_REGISTER: usize = 4294967295;
 
 // What an import answers. In a refusal all but the answer is 0; without a loop START, END and the bits are.
@@ -85,7 +85,7 @@ fn settle(file: &[u8], room: usize, word: usize) -> Settled
     if sample::MOST_MEMORY_WORDS < room {
         return Settled::Refused(Answer::MemoryLength);
     }
-    let Parsed::Chunks(found) = wave::parse(file) else {
+    let Parsed::Unbroken(found) = wave::parse(file) else {
         return Settled::Refused(Answer::FileBroken);
     };
     if wave::is_miscounted(found) {
@@ -98,7 +98,7 @@ fn settle(file: &[u8], room: usize, word: usize) -> Settled
     }
     let sampler = found.sampler;
     let looped = wave::first_loop(file, sampler);
-    if is_outside(pcm.size / 2, looped) {
+    if is_loop_invalid(pcm.size / 2, looped) {
         return Settled::Refused(Answer::LoopInvalid);
     }
     if has_no_place(room, word, pcm.size / 2, looped) {
@@ -170,8 +170,8 @@ fn type_bits(form: u32) -> u32
 
 // ---- refusals
 
-fn is_outside(count: usize, l: Loop) -> bool
-    ensures { λ r. ⌜ r ≡ isOutside count l ⌝ }
+fn is_loop_invalid(count: usize, l: Loop) -> bool
+    ensures { λ r. ⌜ r ≡ isLoopInvalid count l ⌝ }
 {
     match l {
         Loop::Absent => false,

@@ -2,7 +2,7 @@
 use mathlib.Core.Path.{sym, _∙_}
 use borrow.Author.Needs.{needs}
 use Rattle.wave.proofs.Parsing.{was-broken, was-found}
-use Rattle.wave_in.proofs.Settling.{too-much, broken, miscounted-so, count-is, Ready, format-ready, sampler-ready, data-small, other-format, outside, no-place, fine}
+use Rattle.wave_in.proofs.Settling.{too-much, broken, miscounted-so, count-is, Ready, format-ready, sampler-ready, data-small, other-format, loop-invalid, no-place, fine}
 use Rattle.wave_in.proofs.settle.Statement.{statement}
 use Rattle.wave_in.proofs.settle.Tie as tie
 
@@ -45,8 +45,8 @@ returns-5 c =
     let l = c .before .before .before in
     let f = l .before .before in
     let m = f .before .before in
-    outside (ready (m .before .before .before)) _ (m .is-mono16 .result) (m .is-mono16 .ensures) (f .if3 .left) (l .first-loop .result) (l .first-loop .ensures)
-    (sym (c .before .is-outside .ensures) ∙ c .if4 .taken)
+    loop-invalid (ready (m .before .before .before)) _ (m .is-mono16 .result) (m .is-mono16 .ensures) (f .if3 .left) (l .first-loop .result) (l .first-loop .ensures)
+    (sym (c .before .is-loop-invalid .ensures) ∙ c .if4 .taken)
 
 has-no-place-requires : tie.Need-has-no-place-requires
 has-no-place-requires c κs = data-small (ready (c .before .before .before .before .before .before .before .before .before .before .before))
@@ -58,7 +58,7 @@ returns-6 c =
     let f = l .before .before in
     let m = f .before .before in
     no-place (ready (m .before .before .before)) _ (m .is-mono16 .result) (m .is-mono16 .ensures) (f .if3 .left) (l .first-loop .result) (l .first-loop .ensures)
-    (sym (o .before .is-outside .ensures) ∙ o .if4 .left) (sym (c .before .has-no-place .ensures) ∙ c .if5 .taken)
+    (sym (o .before .is-loop-invalid .ensures) ∙ o .if4 .left) (sym (c .before .has-no-place .ensures) ∙ c .if5 .taken)
 
 returns-7 : tie.Need-returns-7
 returns-7 c =
@@ -67,7 +67,7 @@ returns-7 c =
     let f = l .before .before in
     let m = f .before .before in
     fine (ready (m .before .before .before)) _ (m .is-mono16 .result) (m .is-mono16 .ensures) (f .if3 .left) (l .first-loop .result) (l .first-loop .ensures)
-    (sym (o .before .is-outside .ensures) ∙ o .if4 .left) (sym (c .before .has-no-place .ensures) ∙ c .if5 .left)
+    (sym (o .before .is-loop-invalid .ensures) ∙ o .if4 .left) (sym (c .before .has-no-place .ensures) ∙ c .if5 .left)
 
 pub settle-spec : {M : Type 1} → statement M
 settle-spec =

@@ -16,12 +16,12 @@ use Rattle.wave.proofs.Keeping.{once-each, kept-cut}
 use Rattle.wave.proofs.Parsing.{InFileRow, read-row, each-in-file, first-in}
 
 -- it can be read as chunks, no format chunk is short, and no first sampler chunk is cut
-pub record Sound (file : List ℕ) : Type 0 where
+pub record NotBroken (file : List ℕ) : Type 0 where
   pub row : InFileRow file
   pub full : anyShort (chunksOf file) ≡ false
   pub uncut : firstCut file (named SAMPLER (chunksOf file)) ≡ false
 
-pub not-broken : (file : List ℕ) → isBroken file ≡ false → Sound file
+pub not-broken : (file : List ℕ) → isBroken file ≡ false → NotBroken file
 unfolding isBroken
 not-broken file h =
     let a = neither (isUnreadable (listing file)) (anyShort (chunksOf file) || firstCut file (named SAMPLER (chunksOf file))) h in
@@ -43,7 +43,7 @@ each-full (c ∷ cs) h =
     by false e r = r
 
 -- what is asked of each chunk before it is read
-module _ (file : List ℕ) (s : Sound file) where
+module _ (file : List ℕ) (s : NotBroken file) where
   named-in-file : (n : ℕ) → Each (InFile file) (named n (chunksOf file))
   named-in-file n = each-named (InFile file) n (chunksOf file) (each-in-file file (s .row))
 
