@@ -50,14 +50,14 @@ extern "C" {
 #define OTTO_MEMORY_LENGTH  5u /* sample memory is longer than four banks */
 #define OTTO_OUTPUT_LENGTH  6u /* the output is not 12 values */
 #define OTTO_TOO_FEW_VOICES 7u /* ACTV is below 4: fewer than five active */
-#define OTTO_FILE_BROKEN   20u /* too long, no RIFF/WAVE, or a part of it runs
-                                  past the file or past its chunk */
+#define OTTO_FILE_BROKEN   20u /* too long, no RIFF/WAVE, or a part that ends
+                                  too soon */
 #define OTTO_CHUNK_COUNT   21u /* no format or data chunk, or two of one */
-#define OTTO_SAMPLE_FORMAT 22u /* the samples are not 16-bit PCM of one channel,
-                                  or the last one lacks a byte */
-#define OTTO_LOOP_INVALID  23u /* a loop point is past the last sample, the last
-                                  one is before the first, or the type is
-                                  none of 0, 1, 2 */
+#define OTTO_SAMPLE_FORMAT 22u /* not format tag 1, one channel and 16 bits, or
+                                  the last sample lacks a byte */
+#define OTTO_LOOP_INVALID  23u /* a point of the loop is past the data's last
+                                  sample, its end point is before its start
+                                  point, or its type is none of 0, 1, 2 */
 #define OTTO_NO_PLACE      24u /* memory or the bank ends before the samples do,
                                   or END is more than its register holds */
 
@@ -149,11 +149,12 @@ int16_t otto_expand(uint8_t code);
  * 2,097,152 words: a voice plays them with that bank, word / 2097152, in bits
  * 15 and 14 of its CR, and with CMPD 0.
  *
- * *start, *end, *loop and *samples, four places of their own, are always set,
- * to 0 where the call is refused. *samples is the number of samples, which may
- * be 0. The other three are what a voice needs for the file's loop. START and
- * END count from the bank's first word and are written as they are; the loop
- * bits are put into CR beside the voice's other bits, its bank among them:
+ * *start, *end, *loop and *samples, four variables of their own, are always
+ * set, to 0 where the call is refused. *samples is the number of samples, which
+ * may be 0. The other three are what a voice needs for the file's loop. START
+ * and END, in 2048ths of a word from the bank's first on, are written as they
+ * are; the loop bits take the place of the same three of CR, whose other bits,
+ * the bank among them, are the host's:
  *
  *   type 0, one-directional               OTTO_CR_LPE
  *   type 1, there and back                OTTO_CR_LPE | OTTO_CR_BLE
@@ -161,34 +162,41 @@ int16_t otto_expand(uint8_t code);
  *
  * A voice starts at the first sample, ACCUM (word % 2097152) * 2048, and comes
  * to the loop; in reverse it starts within the loop, such as at END - 2048, the
- * loop's last sample. END is one whole sample past that one, so a loop of n
- * samples has a period of just n samples (there and back 2n), where FC is at
- * most n * 2048 and LEI is 0.
+ * loop's last sample. END is where the next one begins, so a loop of n samples
+ * has a period of just n samples (there and back 2n), where FC is at most
+ * n * 2048 and LEI is 0.
  *
- * The voice also fetches the word at END: before END it is the second of the
- * two that are blended, and a voice that comes to stand on END plays it alone.
- * With bank = word - word % 2097152 it is memory[bank + *end / 2048]: the
- * sample after the loop, or, where the loop ends with the data, a word that
- * the import does not write. The loop closes where that word repeats
+ * The voice also fetches the word at END, memory[first + *end / 2048], where
+ * first = word - word % 2097152: before END as the second of the two that are
+ * blended, and when it comes to stand on END as the one that is heard, while it
+ * asks for the word after that as well, unheard. The word at END is the sample
+ * after the loop, or, where the loop ends with the data, a word that the import
+ * does not write. A word that is not lent counts as missing.
  *
- *   types 0 and 2   the loop's first sample, memory[bank + *start / 2048]
- *   type 1          the loop's last, memory[bank + *end / 2048 - 1]
- *
- * and a host that wants this writes it there, so it keeps one word of the bank
- * free behind the samples. Where memory ends there, the word is missing.
+ * A loop of type 0 or 2 goes round smoothly where the word at END repeats the
+ * loop's first sample, memory[first + *start / 2048]. A loop of type 1 turns at
+ * END, so the sample after it does, and where there is none a repeat of its
+ * last, memory[first + *end / 2048 - 1]. A host that wants this writes the word
+ * itself, after it has looked that first + *end / 2048 is below memory_words;
+ * where the data goes on after the loop, it writes over a sample of the file.
  *
  * Where the file has no loop the three are 0, and say nothing of where the
  * samples are. A host then sets START and END itself: where there are samples,
- * a voice with no loop bit stops after the last one at
+ * a voice with no loop bit and LEI 0 stops once it is past the last one, with
  * END (word % 2097152 + *samples - 1) * 2048.
  *
- * Chunks may stand in any order. Those of other names are skipped, and what
- * stands after the RIFF length is not looked at. Of the sampler chunks the
- * first counts, and of its loops the first; the loop's fraction and its number
- * of rounds are not looked at, nor is the file's sample rate: the voice's FC
- * is the host's.
+ * Chunks may stand in any order. What stands after the RIFF length is not
+ * looked at. Of the sampler chunks the first counts, and of its loops the
+ * first; the loop's fraction and its number of rounds are not looked at, nor is
+ * the file's sample rate: the voice's FC is the host's. Chunks of other names
+ * are skipped, but must be whole like all others.
  *
- * Refusals: 5, 20, 21, 22, 23, 24.
+ * Refusals: 5, 20, 21, 22, 23, 24. 20 is the answer to a RIFF length greater
+ * than the file has, to one without room for WAVE, to a chunk that with its pad
+ * goes beyond the RIFF length, to a format chunk of less than 16 bytes, and to
+ * a first sampler chunk of less than 36 and 24 for each loop that it counts.
+ * The extensible format has another tag than 1: 22. A word above memory_words
+ * is 24 even where there are no samples.
  */
 uint32_t otto_import(const uint8_t *file, size_t file_bytes, uint16_t *memory,
                      size_t memory_words, size_t word, uint32_t *start,

@@ -63,7 +63,8 @@ chunksFrom (suc n) file end i =
     let rest = before (chunkAt file i) (chunksFrom n file end (next (chunkAt file i))) in
     cond (ltb i end) (cond (isWhole file end i) rest unreadable) (chunks [])
 
--- ---- the file: "RIFF", a length, "WAVE", and from byte 12 on chunks; the length is that of all after it
+-- ---- the file: "RIFF", a length, "WAVE", and from byte 12 on chunks. The length counts from byte 8 on, and the file
+-- may go on behind it.
 
 abbrev pub MOST_FILE_BYTES : ℕ
 MOST_FILE_BYTES = 65536

@@ -31,7 +31,7 @@ pub enum Opened {
 
 // What stands at a place.
 pub enum Reach {
-    // A chunk that runs past the end.
+    // A chunk that runs past the end, or fewer bytes than a chunk begins with.
     Past,
     // A whole one, and the place of the next.
     Whole { chunk: Chunk, next: usize },

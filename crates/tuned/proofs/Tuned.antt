@@ -15,7 +15,7 @@ use Rattle.control.specs.Control.{bitOf, flagOf, withBit, runs, LEI, LPE, BLE, 
 use Rattle.layout.specs.Bytes.{little, twos}
 use Rattle.sample.specs.Sample.{WHOLE_SAMPLE}
 use Rattle.chunks.specs.Chunks.{chunksOf, chunkAt, isWhole, before, chunksFrom, isHeaded, listing, isUnreadable, chunksIn, named}
-use Rattle.wave.specs.Wave.{dataOf, countOf, loopOf, firstOf, isOnce, anyShort, isMono16, isCut, loopIn, firstCut, firstLoop, isBroken}
+use Rattle.wave.specs.Wave.{dataOf, countOf, loopOf, firstOf, isOnce, anyShort, isMono16, isSamplerShort, loopIn, firstSamplerShort, firstLoop, isBroken}
 use Rattle.wave_in.specs.Registers.{registerAt, startOf, endOf, typeBits, loopBits}
 use Rattle.wave_in.specs.Import.{isLoopInvalid, importAnswer, takenAt, imported, isMiscounted, isOtherFormat, hasNoPlace}
 use Rattle.wave_in.specs.declared.Imported.{Imported}
@@ -31,11 +31,11 @@ use Rattle.tuned.specs.Tuned.{loopSamples, kindOf, roundSamples, Gets, P
 -- ---- the loop of an import that is done
 
 -- it starts at or before its last sample, and is of type 0, 1 or 2
-valid-loop : (count type start last : ℕ) → isLoopInvalid count (Present type start last) ≡ false → (start ≤ last) × (type ≤ 2)
+valid-loop : (count type first last : ℕ) → isLoopInvalid count (Present type first last) ≡ false → (first ≤ last) × (type ≤ 2)
 unfolding isLoopInvalid
-valid-loop count type start last h =
-    let n = neither (ltb last start) (ltb 2 type) (neither (leb count last) (ltb last start || ltb 2 type) h .1) in
-    (ltb-false last start (n .0), ltb-false 2 type (n .1))
+valid-loop count type first last h =
+    let n = neither (ltb last first) (ltb 2 type) (neither (leb count last) (ltb last first || ltb 2 type) h .1) in
+    (ltb-false last first (n .0), ltb-false 2 type (n .1))
 
 -- ---- the bits and the period, by the loop's type
 
@@ -57,14 +57,14 @@ round-is (suc (suc (suc type))) n v h e = absurd (omega arith)
 
 pub imported-in-tune : ImportedInTune
 unfolding startOf endOf loopBits
-imported-in-tune file memory word r after p h type start last l v g q =
+imported-in-tune file memory word r after p h type first last l v g q =
     let t = importable file (length memory) word (sym (same-done p) ∙ h) in
-    let i = valid-loop (countOf (dataOf (chunksOf file))) type start last (rw l at (t .loop)) in
-    let k : r ≡ takenAt word (dataOf (chunksOf file)) (Present type start last) = rw l at (import-done p h) in
-    let f : endOf word (Present type start last) < 4294967296 = omega (arith, rw l at (end-fits t)) in
-    let s : v .start ≡ registerAt word start = g .start ∙ ap (λ (x : Imported). x .start) k in
+    let i = valid-loop (countOf (dataOf (chunksOf file))) type first last (rw l at (t .loop)) in
+    let k : r ≡ takenAt word (dataOf (chunksOf file)) (Present type first last) = rw l at (import-done p h) in
+    let f : endOf word (Present type first last) < 4294967296 = omega (arith, rw l at (end-fits t)) in
+    let s : v .start ≡ registerAt word first = g .start ∙ ap (λ (x : Imported). x .start) k in
     let e : v .end ≡ registerAt word (last + 1) = g .end ∙ ap (λ (x : Imported). x .end) k in
-    let n = loopSamples start last in
+    let n = loopSamples first last in
     let w : v .end ≡ v .start + n * WHOLE_SAMPLE = omega arith in
     let b : r .bits ≡ typeBits type = ap (λ (x : Imported). x .bits) k in
     let loops : Loops (kindOf type) v = record {
@@ -110,7 +110,7 @@ pub record Speaks (type CR : ℕ) : Type 0 where
   pub plays : Plays (loopSamples 0 1) (at-start CR)
 
 pub speaks : Speaks 0 0x08 × Speaks 1 0x18 × Speaks 2 0x48
-unfolding runs flagOf bitOf withBit little twos chunkAt isWhole before chunksFrom isHeaded listing isUnreadable chunksIn named firstOf isOnce anyShort isMono16 isCut loopIn firstCut firstLoop startOf endOf loopBits isBroken isMiscounted isOtherFormat isLoopInvalid hasNoPlace importAnswer imported
+unfolding runs flagOf bitOf withBit little twos chunkAt isWhole before chunksFrom isHeaded listing isUnreadable chunksIn named firstOf isOnce anyShort isMono16 isSamplerShort loopIn firstSamplerShort firstLoop startOf endOf loopBits isBroken isMiscounted isOtherFormat isLoopInvalid hasNoPlace importAnswer imported
 speaks = (by 0 0x08 refl refl refl refl (refl, refl, refl) refl refl, by 1 0x18 refl refl refl refl (refl, refl, refl) refl refl, by 2 0x48 refl refl refl refl (refl, refl, refl) refl refl)
   where
     by : (type CR : ℕ) → isDone (answered type .answer) ≡ true → loopOf (looped type) (chunksOf (looped type)) ≡ Present type 0 1 → 20480 ≡ answered type .start → 24576 ≡ answered type .end

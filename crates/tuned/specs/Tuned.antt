@@ -17,9 +17,9 @@ use Rattle.wave.specs.declared.Loop.the-variants.{Present}
 use Rattle.voice.specs.Voice.{Voice}
 use Rattle.voice.specs.Tune.{turnsOf, Kind, Forward, Reverse, Bidirectional, periodOf, InTune}
 
--- from the loop's start to its last sample
+-- from the loop's first sample to its last
 abbrev pub loopSamples : ℕ → ℕ → ℕ
-loopSamples start last = last + 1 - start
+loopSamples first last = last + 1 - first
 
 -- by the loop's type in the file: the kind of loop that a voice plays, and the samples of one round of a loop of n
 abbrev pub kindOf : ℕ → Kind
@@ -53,5 +53,5 @@ pub record Holds (type n : ℕ) (v : Voice) : Type 0 where
 abbrev pub ImportedInTune : Type 0
 ImportedInTune =
     (file memory : List ℕ) (word : ℕ) (r : Imported) (after : List ℕ) → Imports file memory word r after → isDone (r .answer) ≡ true
-    → (type start last : ℕ) → loopOf file (chunksOf file) ≡ Present type start last
-    → (v : Voice) → Gets r v → Plays (loopSamples start last) v → Holds type (loopSamples start last) v
+    → (type first last : ℕ) → loopOf file (chunksOf file) ≡ Present type first last
+    → (v : Voice) → Gets r v → Plays (loopSamples first last) v → Holds type (loopSamples first last) v

@@ -1,4 +1,4 @@
--- What is kept of some chunks says all that the rules ask of them: whether there is one alone, which is the first, whether the sampler is cut, and its
+-- What is kept of some chunks says all that the rules ask of them: whether there is one alone, which is the first, whether the sampler is short, and its
 -- loop. And one chunk more is kept as the longer list is. Assumes nothing.
 use mathlib.Core.Path.{_≡_, refl, sym, ap, _∙_}
 use mathlib.Core.Bool.{Bool, true, false, cond, not, _&&_, and-eq-true-iff, false≢true}
@@ -9,9 +9,9 @@ use lib.Dec.{eqb}
 use Rattle.chunks.specs.Chunks.{named, FORMAT, DATA, SAMPLER}
 use Rattle.chunks.specs.declared.Chunk.{Chunk}
 use Rattle.chunks.proofs.Named.{Each, named-append}
-use Rattle.wave.specs.Wave.{firstOf, isOnce, firstCut, firstLoop}
+use Rattle.wave.specs.Wave.{firstOf, isOnce, firstSamplerShort, firstLoop}
 use Rattle.wave.specs.declared.Found.{Found}
-use Rattle.wave.specs.Parse.{timesOf, keptOf, keep, foundOf, isOther, withChunk, firstCutOf, loopOfKept}
+use Rattle.wave.specs.Parse.{timesOf, keptOf, keep, foundOf, isOther, withChunk, firstSamplerShortOf, loopOfKept}
 
 -- ---- one chunk more
 
@@ -49,11 +49,11 @@ kept-once [] = refl
 kept-once (c ∷ []) = refl
 kept-once (c ∷ d ∷ cs) = refl
 
-pub kept-cut : (file : List ℕ) (cs : List Chunk) → firstCutOf file (keptOf cs) ≡ firstCut file cs
-unfolding timesOf firstOf firstCut
-kept-cut file [] = refl
-kept-cut file (c ∷ []) = refl
-kept-cut file (c ∷ d ∷ cs) = refl
+pub kept-sampler-short : (file : List ℕ) (cs : List Chunk) → firstSamplerShortOf file (keptOf cs) ≡ firstSamplerShort file cs
+unfolding timesOf firstOf firstSamplerShort
+kept-sampler-short file [] = refl
+kept-sampler-short file (c ∷ []) = refl
+kept-sampler-short file (c ∷ d ∷ cs) = refl
 
 pub kept-loop : (file : List ℕ) (cs : List Chunk) → loopOfKept file (keptOf cs) ≡ firstLoop file cs
 unfolding timesOf firstOf firstLoop

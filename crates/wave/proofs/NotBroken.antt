@@ -10,23 +10,23 @@ use Rattle.numbers.proofs.Tests.{neither}
 use Rattle.chunks.specs.Chunks.{listing, isUnreadable, chunksOf, named, FORMAT, SAMPLER}
 use Rattle.chunks.specs.declared.Chunk.{Chunk}
 use Rattle.chunks.proofs.Named.{Each, each-named}
-use Rattle.wave.specs.Wave.{firstOf, isOnce, formatOf, isShort, anyShort, firstCut, isBroken, FORMAT-BYTES}
-use Rattle.wave.specs.Parse.{keptOf, firstCutOf, InFile}
-use Rattle.wave.proofs.Keeping.{once-each, kept-cut}
+use Rattle.wave.specs.Wave.{firstOf, isOnce, formatOf, isShort, anyShort, firstSamplerShort, isBroken, FORMAT-BYTES}
+use Rattle.wave.specs.Parse.{keptOf, firstSamplerShortOf, InFile}
+use Rattle.wave.proofs.Keeping.{once-each, kept-sampler-short}
 use Rattle.wave.proofs.Parsing.{InFileRow, read-row, each-in-file, first-in}
 
--- it can be read as chunks, no format chunk is short, and no first sampler chunk is cut
+-- it can be read as chunks, no format chunk is short, and no first sampler chunk is
 pub record NotBroken (file : List ℕ) : Type 0 where
   pub row : InFileRow file
-  pub full : anyShort (chunksOf file) ≡ false
-  pub uncut : firstCut file (named SAMPLER (chunksOf file)) ≡ false
+  pub full-formats : anyShort (chunksOf file) ≡ false
+  pub full-sampler : firstSamplerShort file (named SAMPLER (chunksOf file)) ≡ false
 
 pub not-broken : (file : List ℕ) → isBroken file ≡ false → NotBroken file
 unfolding isBroken
 not-broken file h =
-    let a = neither (isUnreadable (listing file)) (anyShort (chunksOf file) || firstCut file (named SAMPLER (chunksOf file))) h in
-    let b = neither (anyShort (chunksOf file)) (firstCut file (named SAMPLER (chunksOf file))) (a .1) in
-    record { row = read-row file (a .0); full = b .0; uncut = b .1 }
+    let a = neither (isUnreadable (listing file)) (anyShort (chunksOf file) || firstSamplerShort file (named SAMPLER (chunksOf file))) h in
+    let b = neither (anyShort (chunksOf file)) (firstSamplerShort file (named SAMPLER (chunksOf file))) (a .1) in
+    record { row = read-row file (a .0); full-formats = b .0; full-sampler = b .1 }
 
 abbrev Full : Chunk → Type 0
 Full c = FORMAT-BYTES ≤ c .size
@@ -51,7 +51,7 @@ module _ (file : List ℕ) (s : NotBroken file) where
   named-in n = first-in file (named n (chunksOf file)) (named-in-file n)
 
   pub format-full : isOnce (named FORMAT (chunksOf file)) ≡ true → FORMAT-BYTES ≤ formatOf (chunksOf file) .size
-  format-full o = once-each Full (named FORMAT (chunksOf file)) o (each-full (chunksOf file) (s .full))
+  format-full o = once-each Full (named FORMAT (chunksOf file)) o (each-full (chunksOf file) (s .full-formats))
 
-  pub sampler-uncut : firstCutOf file (keptOf (named SAMPLER (chunksOf file))) ≡ false
-  sampler-uncut = kept-cut file (named SAMPLER (chunksOf file)) ∙ s .uncut
+  pub sampler-full : firstSamplerShortOf file (keptOf (named SAMPLER (chunksOf file))) ≡ false
+  sampler-full = kept-sampler-short file (named SAMPLER (chunksOf file)) ∙ s .full-sampler

@@ -13,12 +13,12 @@ use Rattle.chunks.specs.declared.Chunk.{Chunk}
 use Rattle.chunks.proofs.Headed.{headed-within}
 use Rattle.chunks.proofs.Row.{listing-row}
 use Rattle.chunks.proofs.Named.{Each, Before, row-before, each-named}
-use Rattle.wave.specs.Wave.{firstOf, anyShort, firstCut, isBroken}
-use Rattle.wave.specs.Parse.{foundOf, firstCutOf, collectedOf, parsedOf, InFile}
+use Rattle.wave.specs.Wave.{firstOf, anyShort, firstSamplerShort, isBroken}
+use Rattle.wave.specs.Parse.{foundOf, firstSamplerShortOf, collectedOf, parsedOf, InFile}
 use Rattle.wave.specs.declared.Found.{Found}
 use Rattle.wave.specs.declared.Parsed.{Parsed}
 use Rattle.wave.specs.declared.Parsed.the-variants.{Broken, Unbroken}
-use Rattle.wave.proofs.Keeping.{kept-cut}
+use Rattle.wave.proofs.Keeping.{kept-sampler-short}
 
 -- ---- what the pass came to
 
@@ -99,7 +99,7 @@ module _ (file : List ℕ) where
 
     pub no-chunks : r ≡ Broken → Broken ≡ parsedOf file
     unfolding isBroken
-    no-chunks e = is-broken (came-broken (listing file) r e whole-pass (firstCut file (named SAMPLER (chunksOf file))))
+    no-chunks e = is-broken (came-broken (listing file) r e whole-pass (firstSamplerShort file (named SAMPLER (chunksOf file))))
 
     module _ (f : Found) (found : r ≡ Unbroken f) where
       pub found-is : f ≡ foundOf (chunksOf file)
@@ -110,18 +110,18 @@ module _ (file : List ℕ) where
           let w = came-found (listing file) r f found whole-pass in
           rw found-is (first-in file (named SAMPLER (chunksOf file)) (each-named (InFile file) SAMPLER (chunksOf file) (each-in-file file (read-row file (w .0)))))
 
-      pub sampler-cut : firstCutOf file (f .sampler) ≡ true → Broken ≡ parsedOf file
+      pub sampler-short : firstSamplerShortOf file (f .sampler) ≡ true → Broken ≡ parsedOf file
       unfolding isBroken
-      sampler-cut t =
+      sampler-short t =
           let w = came-found (listing file) r f found whole-pass in
-          let c : firstCut file (named SAMPLER (chunksOf file)) ≡ true = sym (kept-cut file (named SAMPLER (chunksOf file))) ∙ rw found-is at t in
+          let c : firstSamplerShort file (named SAMPLER (chunksOf file)) ≡ true = sym (kept-sampler-short file (named SAMPLER (chunksOf file))) ∙ rw found-is at t in
           is-broken (rw (w .0, w .1 .0, c))
 
-      pub all-there : firstCutOf file (f .sampler) ≡ false → Unbroken f ≡ parsedOf file
+      pub all-there : firstSamplerShortOf file (f .sampler) ≡ false → Unbroken f ≡ parsedOf file
       unfolding isBroken parsedOf
       all-there t =
           let w = came-found (listing file) r f found whole-pass in
-          let c : firstCut file (named SAMPLER (chunksOf file)) ≡ false = sym (kept-cut file (named SAMPLER (chunksOf file))) ∙ rw found-is at t in
+          let c : firstSamplerShort file (named SAMPLER (chunksOf file)) ≡ false = sym (kept-sampler-short file (named SAMPLER (chunksOf file))) ∙ rw found-is at t in
           rw (w .0, w .1 .0, c, found-is)
 
 -- ---- what an answer tells

@@ -7,7 +7,7 @@ use lib.Dec.{eqb}
 use lib.ListN.{length}
 use Rattle.chunks.specs.Chunks.{Listing, unreadable, chunks, chunksOf, named, FORMAT, DATA, SAMPLER}
 use Rattle.chunks.specs.declared.Chunk.{Chunk}
-use Rattle.wave.specs.Wave.{firstOf, anyShort, isCut, loopIn, isBroken}
+use Rattle.wave.specs.Wave.{firstOf, anyShort, isSamplerShort, loopIn, isBroken}
 use Rattle.wave.specs.declared.Loop.{Loop}
 use Rattle.wave.specs.declared.Loop.the-variants.{Absent}
 use Rattle.wave.specs.declared.Kept.{Kept}
@@ -44,9 +44,9 @@ withChunk c f = record { format = keep FORMAT c (f .format); pcm = keep DATA c (
 abbrev pub foundMiscounted : Found → Bool
 foundMiscounted f = not (eqb (f .format .times) 1 && eqb (f .pcm .times) 1)
 
--- the first sampler chunk, of those that are kept: whether it is cut, and its first loop
-abbrev pub firstCutOf : List ℕ → Kept → Bool
-firstCutOf file k = not (eqb (k .times) 0) && isCut file (k .first)
+-- the first sampler chunk, of those that are kept: whether it is short, and its first loop
+abbrev pub firstSamplerShortOf : List ℕ → Kept → Bool
+firstSamplerShortOf file k = not (eqb (k .times) 0) && isSamplerShort file (k .first)
 
 abbrev pub loopOfKept : List ℕ → Kept → Loop
 loopOfKept file k = cond (eqb (k .times) 0) Absent (loopIn file (k .first))

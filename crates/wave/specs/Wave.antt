@@ -54,7 +54,8 @@ abbrev pub samplesOf : List ℕ → Chunk → List ℕ
 samplesOf file c = twos little (part file (c .place) (c .size))
 
 -- ---- the sampler: 36 bytes, of which 28 to 31 are the number of its loops, and then 24 for each loop: the type is in bytes 4 to 7 of
--- these, the start in 8 to 11, the end in 12 to 15. Start and end are numbers of samples, and the end is the last one of the loop.
+-- these, the start in 8 to 11, the end in 12 to 15. Start and end are numbers of samples, and the end is the last one of the loop. The other
+-- bytes, among them a fraction and a number of rounds, are not looked at.
 
 abbrev pub SAMPLER-BYTES : ℕ
 SAMPLER-BYTES = 36
@@ -65,9 +66,9 @@ LOOP-BYTES = 24
 abbrev pub loopsOf : List ℕ → Chunk → ℕ
 loopsOf file c = little4At file (c .place + 28)
 
--- its bytes, or a loop that they count, run past it
-unfoldable pub isCut : List ℕ → Chunk → Bool
-isCut file c = ltb (c .size) (SAMPLER-BYTES + LOOP-BYTES * loopsOf file c)
+-- it has less than its bytes and those of the loops that they count
+unfoldable pub isSamplerShort : List ℕ → Chunk → Bool
+isSamplerShort file c = ltb (c .size) (SAMPLER-BYTES + LOOP-BYTES * loopsOf file c)
 
 unfoldable pub loopIn : List ℕ → Chunk → Loop
 loopIn file c =
@@ -75,9 +76,9 @@ loopIn file c =
     cond (eqb (loopsOf file c) 0) Absent (Present (little4At file (i + 4)) (little4At file (i + 8)) (little4At file (i + 12)))
 
 -- of the first sampler chunk, if there is one; later ones are not looked into
-unfoldable pub firstCut : List ℕ → List Chunk → Bool
-firstCut file [] = false
-firstCut file (c ∷ cs) = isCut file c
+unfoldable pub firstSamplerShort : List ℕ → List Chunk → Bool
+firstSamplerShort file [] = false
+firstSamplerShort file (c ∷ cs) = isSamplerShort file c
 
 unfoldable pub firstLoop : List ℕ → List Chunk → Loop
 firstLoop file [] = Absent
@@ -89,4 +90,4 @@ loopOf file cs = firstLoop file (named SAMPLER cs)
 -- ---- the file cannot be read as chunks, or a format chunk, or the first sampler chunk, has less than it must
 
 unfoldable pub isBroken : List ℕ → Bool
-isBroken file = isUnreadable (listing file) || (anyShort (chunksOf file) || firstCut file (named SAMPLER (chunksOf file)))
+isBroken file = isUnreadable (listing file) || (anyShort (chunksOf file) || firstSamplerShort file (named SAMPLER (chunksOf file)))

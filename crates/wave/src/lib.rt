@@ -9,8 +9,8 @@ ghost use mathlib.Core.List.{[]};
 ghost use Prim.Native.Nat.{_≤_};
 ghost use lib.ListN.{length};
 ghost use Rattle.chunks.specs.Chunks.{chunksFrom, FIRST_CHUNK as Chunks·FIRST_CHUNK};
-ghost use Rattle.wave.specs.Wave.{isShort, isMono16, isCut, loopIn, FORMAT-BYTES};
-ghost use Rattle.wave.specs.Parse.{keptOf, keep as Parse·keep, foundOf, isOther, withChunk, foundMiscounted, collectedOf, parsedOf, firstCutOf, loopOfKept, InFile};
+ghost use Rattle.wave.specs.Wave.{isShort, isMono16, isSamplerShort, loopIn, FORMAT-BYTES};
+ghost use Rattle.wave.specs.Parse.{keptOf, keep as Parse·keep, foundOf, isOther, withChunk, foundMiscounted, collectedOf, parsedOf, firstSamplerShortOf, loopOfKept, InFile};
 use chunks::Chunk;
 use chunks::Opened;
 use chunks::Reach;
@@ -61,7 +61,7 @@ pub fn parse(file: &[u8]) -> Parsed
         return Parsed::Broken;
     };
     let sampler = found.sampler;
-    if first_cut(file, sampler) {
+    if first_sampler_short(file, sampler) {
         return Parsed::Broken;
     }
     Parsed::Unbroken(found)
@@ -179,17 +179,17 @@ pub fn is_mono16(file: &[u8], c: Chunk) -> bool
 // ---- the sampler
 
 // The first sampler chunk, where there is one, has less than it must.
-fn first_cut(file: &[u8], k: Kept) -> bool
+fn first_sampler_short(file: &[u8], k: Kept) -> bool
     requires { ⌜ InFile (now file) (k .first) ⌝ }
-    ensures { λ r. ⌜ r ≡ firstCutOf (now (file .entry)) k ⌝ }
+    ensures { λ r. ⌜ r ≡ firstSamplerShortOf (now (file .entry)) k ⌝ }
 {
     let first = k.first;
-    (k.times != 0) & is_cut(file, first)
+    (k.times != 0) & is_sampler_short(file, first)
 }
 
-fn is_cut(file: &[u8], c: Chunk) -> bool
+fn is_sampler_short(file: &[u8], c: Chunk) -> bool
     requires { ⌜ InFile (now file) c ⌝ }
-    ensures { λ r. ⌜ r ≡ isCut (now (file .entry)) c ⌝ }
+    ensures { λ r. ⌜ r ≡ isSamplerShort (now (file .entry)) c ⌝ }
 {
     if c.size < SAMPLER_BYTES {
         return true;
@@ -200,7 +200,7 @@ fn is_cut(file: &[u8], c: Chunk) -> bool
 
 pub fn first_loop(file: &[u8], k: Kept) -> Loop
     requires { ⌜ InFile (now file) (k .first) ⌝ }
-    requires { ⌜ firstCutOf (now file) k ≡ false ⌝ }
+    requires { ⌜ firstSamplerShortOf (now file) k ≡ false ⌝ }
     ensures { λ r. ⌜ r ≡ loopOfKept (now (file .entry)) k ⌝ }
 {
     if k.times == 0 {
@@ -212,7 +212,7 @@ pub fn first_loop(file: &[u8], k: Kept) -> Loop
 
 fn loop_in(file: &[u8], c: Chunk) -> Loop
     requires { ⌜ InFile (now file) c ⌝ }
-    requires { ⌜ isCut (now file) c ≡ false ⌝ }
+    requires { ⌜ isSamplerShort (now file) c ≡ false ⌝ }
     ensures { λ r. ⌜ r ≡ loopIn (now (file .entry)) c ⌝ }
 {
     let place = c.place;

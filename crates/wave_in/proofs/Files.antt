@@ -8,7 +8,7 @@ use Rattle.answer.specs.Answer.{answerNumber}
 use Rattle.control.specs.Control.{bitOf, withBit}
 use Rattle.layout.specs.Bytes.{little, twos}
 use Rattle.chunks.specs.Chunks.{chunkAt, isWhole, before, chunksFrom, isHeaded, listing, isUnreadable, chunksIn, named}
-use Rattle.wave.specs.Wave.{firstOf, isOnce, anyShort, isMono16, isCut, loopIn, firstCut, firstLoop, isBroken}
+use Rattle.wave.specs.Wave.{firstOf, isOnce, anyShort, isMono16, isSamplerShort, loopIn, firstSamplerShort, firstLoop, isBroken}
 use Rattle.wave_in.specs.Registers.{startOf, endOf, loopBits}
 use Rattle.wave_in.specs.Import.{isMiscounted, isOtherFormat, isLoopInvalid, hasNoPlace, importAnswer, imported, importMemory}
 
@@ -138,15 +138,15 @@ files =
     ∷ []
 
 pub files-hold : map (λ (row : ℕ × ℕ). row .0) files ≡ map (λ (row : ℕ × ℕ). row .1) files
-unfolding files here answers little twos chunkAt isWhole before chunksFrom isHeaded listing isUnreadable chunksIn named firstOf isOnce anyShort isMono16 isCut loopIn firstCut firstLoop startOf endOf loopBits isBroken isMiscounted isOtherFormat isLoopInvalid hasNoPlace importAnswer imported bitOf withBit
+unfolding files here answers little twos chunkAt isWhole before chunksFrom isHeaded listing isUnreadable chunksIn named firstOf isOnce anyShort isMono16 isSamplerShort loopIn firstSamplerShort firstLoop startOf endOf loopBits isBroken isMiscounted isOtherFormat isLoopInvalid hasNoPlace importAnswer imported bitOf withBit
 files-hold = refl
 
 -- the memory afterwards: the samples from the named word on, and every other word as it was
 pub memory-holds : importMemory (whole (mono ++ two-samples)) (replicate 6 9) 3 ≡ 9 ∷ 9 ∷ 9 ∷ 513 ∷ 1027 ∷ 9 ∷ []
-unfolding little twos chunkAt isWhole before chunksFrom isHeaded listing isUnreadable chunksIn named firstOf isOnce anyShort isMono16 isCut loopIn firstCut firstLoop startOf endOf loopBits isBroken isMiscounted isOtherFormat isLoopInvalid hasNoPlace importAnswer importMemory
+unfolding little twos chunkAt isWhole before chunksFrom isHeaded listing isUnreadable chunksIn named firstOf isOnce anyShort isMono16 isSamplerShort loopIn firstSamplerShort firstLoop startOf endOf loopBits isBroken isMiscounted isOtherFormat isLoopInvalid hasNoPlace importAnswer importMemory
 memory-holds = refl
 
 -- and after a refusal as it was
 pub refused-holds : importMemory (whole (mono ++ two-samples ++ two-samples)) (replicate 6 9) 3 ≡ replicate 6 9
-unfolding little twos chunkAt isWhole before chunksFrom isHeaded listing isUnreadable chunksIn named firstOf isOnce anyShort isMono16 isCut loopIn firstCut firstLoop startOf endOf loopBits isBroken isMiscounted isOtherFormat isLoopInvalid hasNoPlace importAnswer importMemory
+unfolding little twos chunkAt isWhole before chunksFrom isHeaded listing isUnreadable chunksIn named firstOf isOnce anyShort isMono16 isSamplerShort loopIn firstSamplerShort firstLoop startOf endOf loopBits isBroken isMiscounted isOtherFormat isLoopInvalid hasNoPlace importAnswer importMemory
 refused-holds = refl

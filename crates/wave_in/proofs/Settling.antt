@@ -14,14 +14,14 @@ use Rattle.chunks.specs.Chunks.{chunksOf, named, FORMAT, DATA, SAMPLER}
 use Rattle.chunks.specs.declared.Chunk.{Chunk}
 use Rattle.wave.specs.Wave.{isOnce, isMono16, loopOf, FORMAT-BYTES, isBroken}
 use Rattle.wave_in.specs.Import.{isMiscounted, isOtherFormat, isLoopInvalid, hasNoPlace, importAnswer}
-use Rattle.wave.specs.Parse.{foundOf, foundMiscounted, firstCutOf, loopOfKept, InFile}
+use Rattle.wave.specs.Parse.{foundOf, foundMiscounted, firstSamplerShortOf, loopOfKept, InFile}
 use Rattle.wave_in.specs.Steps.{settledOf}
 use Rattle.wave.specs.declared.Loop.{Loop}
 use Rattle.wave.specs.declared.Found.{Found}
 use Rattle.wave_in.specs.declared.Settled.{Settled}
 use Rattle.wave_in.specs.declared.Settled.the-variants.{Refused, Taken}
 use Rattle.wave.proofs.Keeping.{kept-once, kept-loop}
-use Rattle.wave.proofs.NotBroken.{not-broken, named-in, format-full, sampler-uncut}
+use Rattle.wave.proofs.NotBroken.{not-broken, named-in, format-full, sampler-full}
 
 -- ---- the answers
 
@@ -71,10 +71,10 @@ module _ {file : List ℕ} {room : ℕ} {found : Found} (g : Ready file room fou
       let s = not-broken file (g .unbroken) in
       rw (g .found-is) (named-in file s FORMAT, format-full file s (once-both (chunksOf file) (g .counted) .0))
 
-  pub sampler-ready : InFile file (found .sampler .first) × (firstCutOf file (found .sampler) ≡ false)
+  pub sampler-ready : InFile file (found .sampler .first) × (firstSamplerShortOf file (found .sampler) ≡ false)
   sampler-ready =
       let s = not-broken file (g .unbroken) in
-      rw (g .found-is) (named-in file s SAMPLER, sampler-uncut file s)
+      rw (g .found-is) (named-in file s SAMPLER, sampler-full file s)
 
   pub data-small : found .pcm .first .size / 2 ≤ 65536
   data-small =

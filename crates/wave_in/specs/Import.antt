@@ -24,7 +24,7 @@ use Rattle.wave_in.specs.declared.Imported.{Imported}
 
 -- 5 is `tooManyWords`, of the memory alone, and 20 `isBroken`, of the file alone
 
--- 21: format or data missing, or given twice
+-- 21: not one format chunk, or not one data chunk
 unfoldable pub isMiscounted : List Chunk → Bool
 isMiscounted cs = not (isOnce (named FORMAT cs) && isOnce (named DATA cs))
 

@@ -16,7 +16,7 @@ unfoldable pub startOf : ℕ → Loop → ℕ
 startOf word Absent = 0
 startOf word (Present type start last) = registerAt word start
 
--- one whole sample past the last one of the loop
+-- where the sample after the last one of the loop begins
 unfoldable pub endOf : ℕ → Loop → ℕ
 endOf word Absent = 0
 endOf word (Present type start last) = registerAt word (last + 1)

@@ -191,8 +191,8 @@ fn has_no_place(room: usize, word: usize, count: usize, l: Loop) -> bool
     if room - count < word {
         return true;
     }
-    let bank = sample::BANK_WORDS as usize;
-    (bank < word % bank + count) | (GREATEST_REGISTER < end_of(word, l))
+    let bank_words = sample::BANK_WORDS as usize;
+    (bank_words < word % bank_words + count) | (GREATEST_REGISTER < end_of(word, l))
 }
 
 // ---- the samples

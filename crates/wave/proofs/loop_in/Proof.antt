@@ -7,13 +7,13 @@ use native.Mathlib.Omega.{arith}
 use borrow.Author.Needs.{needs}
 use borrow.Author.Tests.{ltb-false, ne-eqb}
 use Rattle.chunks.specs.declared.Chunk.{Chunk}
-use Rattle.wave.specs.Wave.{loopsOf, isCut, loopIn, SAMPLER-BYTES, LOOP-BYTES}
+use Rattle.wave.specs.Wave.{loopsOf, isSamplerShort, loopIn, SAMPLER-BYTES, LOOP-BYTES}
 use Rattle.wave.proofs.loop_in.Statement.{statement}
 use Rattle.wave.proofs.loop_in.Tie as tie
 
 -- the loops that it counts lie in it
-has-loops : (file : List ℕ) (c : Chunk) → isCut file c ≡ false → SAMPLER-BYTES + LOOP-BYTES * loopsOf file c ≤ c .size
-unfolding isCut
+has-loops : (file : List ℕ) (c : Chunk) → isSamplerShort file c ≡ false → SAMPLER-BYTES + LOOP-BYTES * loopsOf file c ≤ c .size
+unfolding isSamplerShort
 has-loops file c h = ltb-false (c .size) (SAMPLER-BYTES + LOOP-BYTES * loopsOf file c) h
 
 little4-at-requires : tie.Need-little4-at-requires

@@ -2,7 +2,7 @@
 use mathlib.Core.Path.{sym, _∙_}
 use borrow.Author.Needs.{needs}
 use Rattle.chunks.proofs.Headed.{was-unheaded, was-upto, headed-within}
-use Rattle.wave.proofs.Parsing.{no-header, no-chunks, sampler-in, sampler-cut, all-there}
+use Rattle.wave.proofs.Parsing.{no-header, no-chunks, sampler-in, sampler-short, all-there}
 use Rattle.wave.proofs.parse.Statement.{statement}
 use Rattle.wave.proofs.parse.Tie as tie
 
@@ -26,8 +26,8 @@ returns-2 c =
     let h = was-upto _ (o .open .result) (o .open .ensures) _ (e .end .given .1) in
     no-chunks _ (h .0) _ (h .1) _ (q .collect .ensures) (c .enum-told2 .given .1)
 
-first-cut-requires : tie.Need-first-cut-requires
-first-cut-requires c κs =
+first-sampler-short-requires : tie.Need-first-sampler-short-requires
+first-sampler-short-requires c κs =
     let f = c .before .before in
     let q = f .before .before in
     let e = q .before .before in
@@ -42,7 +42,7 @@ returns-3 c =
     let e = q .before .before in
     let o = e .before .before in
     let h = was-upto _ (o .open .result) (o .open .ensures) _ (e .end .given .1) in
-    sampler-cut _ (h .0) _ (h .1) _ (q .collect .ensures) _ (f .found .given .1) (sym (c .before .first-cut .ensures) ∙ c .if1 .taken)
+    sampler-short _ (h .0) _ (h .1) _ (q .collect .ensures) _ (f .found .given .1) (sym (c .before .first-sampler-short .ensures) ∙ c .if1 .taken)
 
 returns-4 : tie.Need-returns-4
 returns-4 c =
@@ -51,7 +51,7 @@ returns-4 c =
     let e = q .before .before in
     let o = e .before .before in
     let h = was-upto _ (o .open .result) (o .open .ensures) _ (e .end .given .1) in
-    all-there _ (h .0) _ (h .1) _ (q .collect .ensures) _ (f .found .given .1) (sym (c .before .first-cut .ensures) ∙ c .if1 .left)
+    all-there _ (h .0) _ (h .1) _ (q .collect .ensures) _ (f .found .given .1) (sym (c .before .first-sampler-short .ensures) ∙ c .if1 .left)
 
 pub parse-spec : {M : Type 1} → statement M
 parse-spec =
@@ -65,6 +65,6 @@ parse-spec =
     (λ c. search needs)
     (λ c. search needs)
     returns-2
-    first-cut-requires
+    first-sampler-short-requires
     returns-3
     returns-4)
