@@ -1,4 +1,4 @@
--- Bits of a word: a word by its parts above, at and below a bit; what a put bit leaves; reading bit m after bit n was put.
+-- Bits of a word: a word by its parts above, at and below a bit; what a put bit leaves, in its range too; reading bit m after bit n was put.
 -- Assumes nothing.
 use mathlib.Core.Path.{_≡_, sym, ap, subst, _∙_}
 use mathlib.Core.Logic.{_≢_}
@@ -20,6 +20,11 @@ parts : (n w : ℕ) → w ≡ (w / 2 ^ n / 2 * 2 + bitOf n w) * 2 ^ n + w % 2 ^ 
 unfolding bitOf
 parts n w = let q : w / 2 ^ n / 2 * 2 + w / 2 ^ n % 2 ≡ w / 2 ^ n = omega arith in rw q (sym (split w n))
 
+-- a word's part from bit n on, by its part from the next bit on
+pub joined : (n w : ℕ) → w / 2 ^ n ≡ 2 * (w / 2 ^ (n + 1)) + bitOf n w
+unfolding bitOf
+joined n w = omega (arith, shr-shr w n 1)
+
 -- a put bit changes that part alone
 put-parts : (n b w : ℕ) → withBit n b w ≡ (w / 2 ^ n / 2 * 2 + b) * 2 ^ n + w % 2 ^ n
 unfolding withBit
@@ -29,9 +34,9 @@ put-parts n b w =
     omega arith
 
 -- a bit in its place fits a word of 32 bits, and is in the word
-pub in-place : (n x : ℕ) → n < 16 → x ≤ 1 → (x * 2 ^ n) % 4294967296 ≡ x * 2 ^ n
+pub in-place : (n x : ℕ) → n < 32 → x ≤ 1 → (x * 2 ^ n) % 4294967296 ≡ x * 2 ^ n
 in-place n x h k =
-    let p : 2 ^ n ≤ 2 ^ 15 = pow-mono {i = n} {j = 15} (omega arith) in
+    let p : 2 ^ n ≤ 2 ^ 31 = pow-mono {i = n} {j = 31} (omega arith) in
     let q : x * 2 ^ n ≤ 1 * 2 ^ n = mul-le-mul-right (2 ^ n) k in
     mod-eq-of-lt (omega arith)
 
@@ -40,16 +45,19 @@ bit-within n w =
     let e = parts n w in
     omega arith
 
--- and a word of 16 bits stays one
-pub put-small : (n b w : ℕ) → n < 16 → b ≤ 1 → w < 65536 → withBit n b w < 65536
-put-small n b w hn hb hw =
-    let k = 15 - n in
-    let e : 16 ≡ suc k + n = omega arith in
-    let top : 65536 ≡ 2 ^ suc k * 2 ^ n = ap (λ (j : ℕ). 2 ^ j) e ∙ pow-add 2 (suc k) n in
+-- and a word of d bits stays one
+pub put-below : (d n b w : ℕ) → n < d → b ≤ 1 → w < 2 ^ d → withBit n b w < 2 ^ d
+put-below d n b w hn hb hw =
+    let k = d - 1 - n in
+    let e : d ≡ suc k + n = omega arith in
+    let top : 2 ^ d ≡ 2 ^ suc k * 2 ^ n = ap (λ (j : ℕ). 2 ^ j) e ∙ pow-add 2 (suc k) n in
     let q : w / 2 ^ n < 2 ^ suc k = shr-lt (suc k) n (subst (λ (j : ℕ). w < j) (ap (λ (j : ℕ). 2 ^ j) e) hw) in
     let t : 2 ^ suc k ≡ 2 ^ k * 2 = pow-suc 2 k in
     let h : w / 2 ^ n / 2 * 2 + b < 2 ^ suc k = omega arith in
     subst (λ (j : ℕ). withBit n b w < j) (sym top) (rw (put-parts n b w) (digits-lt h (mod-lt w (pow-pos n))))
+
+pub put-small : (n b w : ℕ) → n < 16 → b ≤ 1 → w < 65536 → withBit n b w < 65536
+put-small n b w hn hb hw = put-below 16 n b w hn hb hw
 
 -- the bit that was put
 pub read-put : (n b w : ℕ) → b ≤ 1 → bitOf n (withBit n b w) ≡ b

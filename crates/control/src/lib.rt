@@ -2,7 +2,7 @@
 // A bit's number is a literal wherever these are called, so the compiler leaves one test or one mask of each.
 ghost use mathlib.Core.Path.{_≡_};
 ghost use Prim.Native.Nat.{_<_, _≤_};
-ghost use Rattle.control.specs.Control.{flagOf, withBit, channelOf, bankOf, runs};
+ghost use Rattle.control.specs.Control.{bitOf, flagOf, withBit, channelOf, bankOf, runs};
 
 pub const STP0: u32 = 0;
 
@@ -26,6 +26,14 @@ pub const LP4: u32 = 9;
 
 pub const CMPD: u32 = 13;
 
+// Bit n of the word.
+pub fn bit(n: u32, w: u32) -> u32
+    requires { ⌜ n < 32 ⌝ }
+    ensures { λ r. ⌜ (r ≡ bitOf n w) × (r ≤ 1) ⌝ }
+{
+    (w >> n) % 2
+}
+
 // Whether bit n of the word is 1.
 pub fn flag(n: u32, w: u32) -> bool
     requires { ⌜ n < 16 ⌝ }
@@ -34,14 +42,23 @@ pub fn flag(n: u32, w: u32) -> bool
     (w >> n) % 2 == 1
 }
 
-// The word with bit n put to b.
+// The word with bit n put to b, of any 32 bits.
+pub fn put(n: u32, b: u32, w: u32) -> u32
+    requires { ⌜ n < 32 ⌝ }
+    requires { ⌜ b ≤ 1 ⌝ }
+    ensures { λ r. ⌜ r ≡ withBit n b w ⌝ }
+{
+    w - (bit(n, w) << n) + (b << n)
+}
+
+// The same of a control register, which stays one of 16 bits.
 pub fn with_bit(n: u32, b: u32, w: u32) -> u32
     requires { ⌜ n < 16 ⌝ }
     requires { ⌜ b ≤ 1 ⌝ }
     requires { ⌜ w < 65536 ⌝ }
     ensures { λ r. ⌜ (r ≡ withBit n b w) × (r < 65536) ⌝ }
 {
-    w - ((w >> n) % 2 << n) + (b << n)
+    put(n, b, w)
 }
 
 // The channel that the voice is added to.

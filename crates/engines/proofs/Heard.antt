@@ -26,7 +26,7 @@ use Rattle.machine.specs.Check.{checked}
 use Rattle.machine.specs.Reset.{resetAnswer, resetWord, wordsFrom, fresh}
 use Rattle.voice.specs.Voice.{wordsOf}
 use Rattle.voice.specs.Missed.{missedBy}
-use Rattle.frame.specs.Sum.{sum}
+use Rattle.numbers.specs.Sum.{sum}
 use Rattle.frame.specs.Missing.{missedIn}
 use Rattle.frame.specs.Frame.{addedTo, added, signalled, turnAt, turns, heard, silenced, closed, played, frameAnswer, frameRecord, frameOutput, frameMissing}
 

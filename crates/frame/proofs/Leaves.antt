@@ -31,7 +31,7 @@ use Rattle.machine.proofs.Parts.{voice-set-shared, voice-same, put-length, put-
 use Rattle.machine.proofs.Valid.{Sound, sound-set, sound-put, sound-voice}
 use Rattle.voice.specs.Turn.{turnOf}
 use Rattle.voice.specs.Voice.{voiceOf, wordsOf}
-use Rattle.frame.specs.Sum.{sum}
+use Rattle.numbers.specs.Sum.{sum}
 use Rattle.frame.specs.Frame.{addedTo, added, signalled, turnAt, turns, played, heard, silenced, closed}
 use Rattle.frame.proofs.Steps.{added-to-length, added-to-other}
 use Rattle.frame.proofs.Keeps.{sum-small, words-length, turn-cut, sound-turn, active-le}

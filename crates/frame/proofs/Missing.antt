@@ -22,10 +22,10 @@ use Rattle.sample.proofs.Laws.{within-four-banks}
 use Rattle.voice.specs.Voice.{voiceOf}
 use Rattle.voice.specs.Missed.{missedBy}
 use Rattle.voice.proofs.Missed.{missed-most, missed-none, missed-both}
-use Rattle.frame.specs.Sum.{sum}
+use Rattle.numbers.specs.Sum.{sum}
 use Rattle.frame.specs.Missing.{missedIn, AllThere}
 use Rattle.frame.specs.Frame.{turns, frameAnswer, frameMissing}
-use Rattle.frame.proofs.Sum.{sum-ext, sum-most, sum-zeros, none-summed}
+use Rattle.numbers.proofs.Sum.{sum-ext, sum-most, sum-zeros, none-summed}
 use Rattle.frame.proofs.Keeps.{active-le, places-of}
 use Rattle.frame.proofs.Leaves.{turned}
 use Rattle.frame.proofs.Answered.{done-frame}

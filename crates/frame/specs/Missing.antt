@@ -10,7 +10,7 @@ use Rattle.machine.specs.Words.{ACTV}
 use Rattle.machine.specs.Voices.{voiceAt}
 use Rattle.voice.specs.Voice.{voiceOf}
 use Rattle.voice.specs.Missed.{missedBy, BothThere}
-use Rattle.frame.specs.Sum.{sum}
+use Rattle.numbers.specs.Sum.{sum}
 
 -- the voices 0 to ACTV, each with what it misses
 unfoldable pub missedIn : List ℕ → List ℕ → ℕ

@@ -1,7 +1,7 @@
--- What the check of a record answers, by the record: of another length; with a stray bit; with a vector that is none, or one. And back:
--- a record that is not refused is sound. Assumes nothing.
+-- What the check of a record answers, by the record: of another length; with a stray bit or a false mask; with a vector that is none, or one.
+-- And back: a record that is not refused is sound. Then what a reset and the call that tells which voices wait promise. Assumes nothing.
 use mathlib.Core.Path.{_≡_, refl, sym, ap, subst, _∙_}
-use mathlib.Core.Bool.{Bool, true, false, not, cond, _&&_, false≢true}
+use mathlib.Core.Bool.{Bool, true, false, not, cond, _&&_, and-assoc, and-comm}
 use mathlib.Core.List.{List, [], _∷_}
 use Prim.Native.Nat.{ℕ}
 use lib.Dec.{eqb}
@@ -11,10 +11,11 @@ use Rattle.answer.specs.Answer.{isDone}
 use Rattle.answer.specs.declared.Answer.{Answer}
 use Rattle.answer.specs.declared.Answer.the-variants.{Done, RecordLength, RecordInvalid}
 use Rattle.answer.proofs.Refusals.{none-holds}
-use Rattle.machine.specs.Words.{cutTo, isVector, valid, IRQV, RECORD_WORDS}
+use Rattle.machine.specs.Words.{cutTo, isVector, isTrueMask, valid, IRQV, WAIT_MASK, RECORD_WORDS}
 use Rattle.machine.specs.Check.{wrongLength, notValid, checked}
 use Rattle.machine.specs.Reset.{resetAnswer, fresh, resetRecord, Resets}
-use Rattle.machine.proofs.Valid.{Sound, sound, is-valid}
+use Rattle.machine.specs.Waiting.{waitingMask, Waits}
+use Rattle.machine.proofs.Valid.{both, Sound, sound, is-valid}
 
 module _ (m : List ℕ) where
   pub wrong-size : (length m ≡ RECORD_WORDS → ⊥) → resetAnswer m ≡ RecordLength
@@ -29,14 +30,20 @@ module _ (m : List ℕ) where
   unfolding checked
   check-size h = rw (ne-eqb (length m) RECORD_WORDS h)
 
-  pub check-stray : length m ≡ RECORD_WORDS → cutTo m RECORD_WORDS ≡ false → checked m ≡ RecordInvalid
+  pub check-stray : length m ≡ RECORD_WORDS → (cutTo m RECORD_WORDS && isTrueMask m) ≡ false → checked m ≡ RecordInvalid
   unfolding checked valid
-  check-stray h k = rw (eq-eqb (length m) RECORD_WORDS h, k)
+  check-stray h k = rw (
+    eq-eqb (length m) RECORD_WORDS h,
+    and-comm (isVector (getD m IRQV 0)) (isTrueMask m),
+    ← (and-assoc (cutTo m RECORD_WORDS) (isTrueMask m) (isVector (getD m IRQV 0))),
+    k,
+  )
 
-  pub check-vector : length m ≡ RECORD_WORDS → cutTo m RECORD_WORDS ≡ true → (b : Bool) → isVector (getD m IRQV 0) ≡ b → checked m ≡ cond b Done RecordInvalid
+  pub check-vector : length m ≡ RECORD_WORDS → (cutTo m RECORD_WORDS && isTrueMask m) ≡ true → (b : Bool) → isVector (getD m IRQV 0) ≡ b
+      → checked m ≡ cond b Done RecordInvalid
   unfolding checked valid
-  check-vector h k true q = rw (eq-eqb (length m) RECORD_WORDS h, k, q)
-  check-vector h k false q = rw (eq-eqb (length m) RECORD_WORDS h, k, q)
+  check-vector h k true q = let p = both (cutTo m RECORD_WORDS) (isTrueMask m) k in rw (eq-eqb (length m) RECORD_WORDS h, p .0, p .1, q)
+  check-vector h k false q = let p = both (cutTo m RECORD_WORDS) (isTrueMask m) k in rw (eq-eqb (length m) RECORD_WORDS h, p .0, q)
 
 -- the other way round: neither of the check's tests holds of a sound record, and of no other
 pub sound-tests : (m : List ℕ) → Sound m → (wrongLength m ≡ false) × (notValid m ≡ false)
@@ -64,3 +71,17 @@ reset-done m n h e = record { answers = sym (right-size m h); leaves = rw (right
 -- two outcomes that the promise allows are equal
 pub one-reset : {m : List ℕ} {a b : Answer} {x y : List ℕ} → Resets m a x → Resets m b y → (a ≡ b) × (x ≡ y)
 one-reset p q = (p .answers ∙ sym (q .answers), p .leaves ∙ sym (q .leaves))
+
+-- ---- which voices wait
+
+pub waiting-refused : (m : List ℕ) (r : Answer) → r ≡ checked m → isDone r ≡ false → Waits m r 0
+unfolding waitingMask
+waiting-refused m r e h = record { answers = e; gives = rw (← e, h) }
+
+pub waiting-done : (m : List ℕ) → Done ≡ checked m → Waits m Done (getD m WAIT_MASK 0)
+unfolding waitingMask
+waiting-done m e = record { answers = e; gives = rw (← e) }
+
+-- two outcomes that the promise allows are equal
+pub one-waiting : {m : List ℕ} {a b : Answer} {x y : ℕ} → Waits m a x → Waits m b y → (a ≡ b) × (x ≡ y)
+one-waiting p q = (p .answers ∙ sym (q .answers), p .gives ∙ sym (q .gives))

@@ -6,7 +6,9 @@ use Prim.Native.Nat.{ℕ, zero, suc, _+_, _<_}
 use native.Mathlib.Nat.{not-suc-le-zero, le-of-suc-le-suc, add-zero, zero-add, add-suc, suc-add}
 use lib.ListN.{length, getD}
 use lib.Seq.{ext-getD}
-use Rattle.machine.specs.Words.{valid, cutTo, cut, bitsOf, voiceBits, sharedBits, isVector, RECORD_WORDS}
+use Rattle.numbers.specs.Sum.{sum}
+use Rattle.control.specs.Control.{bitOf}
+use Rattle.machine.specs.Words.{valid, cutTo, cut, bitsOf, voiceBits, sharedBits, isVector, isTrueMask, waitingVoices, RECORD_WORDS}
 use Rattle.machine.specs.Reset.{resetWord, wordsFrom, fresh}
 
 from-length : (f : ℕ → ℕ) (i n : ℕ) → length (wordsFrom f i n) ≡ n
@@ -28,10 +30,10 @@ pub fresh-at : (k : ℕ) → k < RECORD_WORDS → getD fresh k 0 ≡ resetWord k
 unfolding fresh
 fresh-at k h = from-at resetWord 0 RECORD_WORDS k h ∙ ap resetWord (zero-add k)
 
--- a record of 663 words that are each as after a reset
+-- a record whose words are each as after a reset
 pub is-fresh : (m : List ℕ) → length m ≡ RECORD_WORDS → ((k : ℕ) → k < RECORD_WORDS → getD m k 0 ≡ resetWord k) → m ≡ fresh
 is-fresh m h f = ext-getD 0 m fresh (h ∙ sym fresh-length) (λ k l. let q : k < RECORD_WORDS = rw h at l in f k q ∙ sym (fresh-at k q))
 
 pub fresh-valid : valid fresh ≡ true
-unfolding valid cutTo cut bitsOf sharedBits isVector fresh wordsFrom resetWord
+unfolding valid cutTo cut bitsOf sharedBits isVector isTrueMask waitingVoices sum bitOf fresh wordsFrom resetWord
 fresh-valid = refl

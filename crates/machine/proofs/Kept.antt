@@ -1,6 +1,6 @@
 -- The check's lanes of stray bits. In order: an accumulator, which is 0 where every word that joined it has only bits that it keeps; words
 -- gathered into one, which have stray bits where one of them has; the bits kept, by the tables; the four lanes, which are 0 where one
--- accumulator would be. Assumes nothing.
+-- accumulator would be, and with them the mask. Assumes nothing.
 use mathlib.Core.Path.{_≡_, refl, sym, ap, ap₂, _∙_}
 use mathlib.Core.Bool.{Bool, true, false, _&&_, and-assoc, and-true, and-false, and-comm as &&-comm}
 use mathlib.Core.List.{List, [], _∷_}
@@ -14,7 +14,7 @@ use lib.Dec.{eqb, eqb→eq}
 use lib.ListN.{length, getD, set, length-set}
 use borrow.Author.Tests.{eq-eqb, ne-eqb, eqb-true, eqb-false, le-ltb}
 use Rattle.numbers.proofs.Tests.{all-at}
-use Rattle.machine.specs.Words.{PAGE, SUMS, bits, voiceBits, sharedBits, bitsOf}
+use Rattle.machine.specs.Words.{PAGE, SUMS, WAIT_MASK, bits, voiceBits, sharedBits, bitsOf, waitingVoices, isTrueMask}
 use Rattle.machine.specs.Kept.{among, keptAt, gathered, inVoices, inSums, gatheredKept, sumsKept, threeKept, sharedKept, clear, Lanes}
 
 or-zero : (a b : ℕ) → bitOr a b ≡ 0 → (a ≡ 0) × (b ≡ 0)
@@ -209,5 +209,15 @@ clear-four (a ∷ b ∷ []) h = absurd (let z : ⊥ = omega arith in z)
 clear-four (a ∷ b ∷ c ∷ []) h = absurd (let z : ⊥ = omega arith in z)
 clear-four (a ∷ b ∷ c ∷ d ∷ e ∷ s) h = absurd (let z : ⊥ = omega arith in z)
 
-pub four-lanes : {s : List ℕ} {t : Bool} → Lanes s t → eqb (bitOr (bitOr (bitOr (getD s 0 0) (getD s 1 0)) (getD s 2 0)) (getD s 3 0)) 0 ≡ t
+four-lanes : {s : List ℕ} {t : Bool} → Lanes s t → eqb (bitOr (bitOr (bitOr (getD s 0 0) (getD s 1 0)) (getD s 2 0)) (getD s 3 0)) 0 ≡ t
 four-lanes {s} p = clear-four s (p .four) ∙ p .tell
+
+-- and with them the bits in which the mask is false, where y is what it has to be
+pub lanes-and-mask : {s : List ℕ} {t : Bool} (m : List ℕ) (y : ℕ) → Lanes s t → y ≡ waitingVoices m
+    → eqb (bitOr (bitOr (bitOr (bitOr (getD s 0 0) (getD s 1 0)) (getD s 2 0)) (getD s 3 0)) (bitXor (getD m WAIT_MASK 0) y)) 0 ≡ (t && isTrueMask m)
+unfolding isTrueMask
+lanes-and-mask {s} {t} m y p e =
+    let x = getD m WAIT_MASK 0 in
+    let lanes : Tells (bitOr (bitOr (bitOr (getD s 0 0) (getD s 1 0)) (getD s 2 0)) (getD s 3 0)) t = record { tells = four-lanes p } in
+    let differ : Tells (bitXor x y) (eqb x y) = record { tells = same-test (bitXor x y) 0 x y (xor-zero x y) (λ q. rw (q, xor-self)) (eqb x y) refl } in
+    joins lanes differ .tells ∙ ap (λ (z : ℕ). t && eqb x z) e

@@ -1,25 +1,27 @@
 -- What a valid record has, and what is enough for one; the check's way of going about it finds the same; what keeps a record valid.
--- In order: tests of all words; validity by its parts (`Sound`, `sound`, `is-valid`, `word-le`); the check's test is validity (`bits-voice`,
--- `words-test`); words that are cut (`cut-again`, `cut-voice`); a store and a put voice keep it (`sound-set`, `sound-put`), and a voice of a valid
--- record is cut (`sound-voice`). What the check answers is Answers. Assumes nothing.
+-- In order: tests of all words; validity by its parts (`Sound`, `sound`, `is-valid`), and all of it but the mask (`InRange`, `in-range`,
+-- `word-le`); the check's test is validity (`bits-voice`, `words-test`); words that are cut (`cut-again`, `cut-voice`); a store and a put voice keep a
+-- record in range (`range-set`, `range-put`), with its mask made true it is valid (`sound-masked`), and a store at a shared word keeps it so
+-- (`sound-set`); a voice of a valid record is cut (`range-voice`). What the check answers is Answers. Assumes nothing.
 use mathlib.Core.Path.{_≡_, refl, sym, ap, ap₂, subst, _∙_}
 use mathlib.Core.Bool.{Bool, true, false, _&&_, false≢true}
 use mathlib.Core.List.{List}
-use Prim.Native.Nat.{ℕ, zero, suc, _+_, _-_, _*_, _/_, _%_, _<_, _≤_}
-use native.Mathlib.Nat.{not-suc-le-zero}
+use Prim.Native.Nat.{ℕ, zero, suc, _+_, _-_, _*_, _/_, _%_, _^_, _<_, _≤_}
+use native.Mathlib.Nat.{not-suc-le-zero, mod-eq-of-lt}
 use native.Mathlib.Decide.{ℕ-discrete}
 use native.Mathlib.Omega.{arith}
-use lib.Bits.{bitAnd, and-le-r, and-zero-l}
+use lib.Bits.{bitAnd, and-le-r, and-zero-l, and-mask}
 use lib.Dec.{eqb, eqb→eq}
 use lib.ListN.{length, getD, set, length-set}
 use lib.Seq.{getD-set-same, getD-set-other}
 use borrow.Author.Tests.{eq-eqb, eqb-true, lt-ltb}
 use Rattle.numbers.proofs.Tests.{cases, all-at}
-use Rattle.machine.specs.Words.{RECORD_WORDS, PAGE, IRQV, SUMS, voiceWord, voiceBits, sharedBits, bitsOf, cut, cutTo, isVector, valid}
+use Rattle.machine.specs.Words.{RECORD_WORDS, PAGE, IRQV, SUMS, WAIT_MASK, voiceWord, voiceBits, sharedBits, bitsOf, cut, cutTo, isVector, waitingVoices, withMask, isTrueMask, valid}
 use Rattle.machine.specs.Voices.{voiceAt, putVoice}
 use Rattle.machine.specs.Kept.{among, keptAt, gathered, gatheredKept, sumsKept, threeKept, sharedKept}
 use Rattle.machine.proofs.Kept.{and-again, or-kept}
 use Rattle.machine.proofs.Parts.{voice-word, put-length, put-in, put-out}
+use Rattle.machine.proofs.Mask.{waiting-lt, set-shared, masked-length, masked-flags, masked-mask, masked-word}
 
 -- ---- tests
 
@@ -53,6 +55,16 @@ pub record Sound (m : List ℕ) : Type 0 where
   pub size : length m ≡ RECORD_WORDS
   pub words : (i : ℕ) → i < RECORD_WORDS → cut i (getD m i 0) ≡ getD m i 0
   pub vector : isVector (getD m IRQV 0) ≡ true
+  pub mask : getD m WAIT_MASK 0 ≡ waitingVoices m
+
+-- The mask left aside: a record while one of its flags is being changed.
+pub record InRange (m : List ℕ) : Type 0 where
+  pub size : length m ≡ RECORD_WORDS
+  pub words : (i : ℕ) → i < RECORD_WORDS → cut i (getD m i 0) ≡ getD m i 0
+  pub vector : isVector (getD m IRQV 0) ≡ true
+
+pub in-range : {m : List ℕ} → Sound m → InRange m
+in-range s = record { size = s .size; words = s .words; vector = s .vector }
 
 -- the test of the first n words is that of each
 tests-each : (m : List ℕ) (n : ℕ) → cutTo m n ≡ true → (i : ℕ) → i < n → keptAt m i ≡ true
@@ -64,24 +76,26 @@ unfolding cutTo cut
 tests-all m = from-each (keptAt m) (cutTo m) refl (λ j. refl)
 
 pub sound : (m : List ℕ) → valid m ≡ true → Sound m
-unfolding valid cut
+unfolding valid cut isTrueMask
 sound m h =
-    let a = both (eqb (length m) RECORD_WORDS) (cutTo m RECORD_WORDS && isVector (getD m IRQV 0)) h in
-    let b = both (cutTo m RECORD_WORDS) (isVector (getD m IRQV 0)) (a .1) in
+    let a = both (eqb (length m) RECORD_WORDS) (cutTo m RECORD_WORDS && (isVector (getD m IRQV 0) && isTrueMask m)) h in
+    let b = both (cutTo m RECORD_WORDS) (isVector (getD m IRQV 0) && isTrueMask m) (a .1) in
+    let c = both (isVector (getD m IRQV 0)) (isTrueMask m) (b .1) in
     record {
       size = eqb-true (length m) RECORD_WORDS (a .0);
       words = λ i k. eqb-true (cut i (getD m i 0)) (getD m i 0) (tests-each m RECORD_WORDS (b .0) i k);
-      vector = b .1;
+      vector = c .0;
+      mask = eqb-true (getD m WAIT_MASK 0) (waitingVoices m) (c .1);
     }
 
 pub is-valid : (m : List ℕ) → Sound m → valid m ≡ true
-unfolding valid cut
+unfolding valid cut isTrueMask
 is-valid m s =
     let e : cutTo m RECORD_WORDS ≡ true = tests-all m RECORD_WORDS (λ i k. eq-eqb (cut i (getD m i 0)) (getD m i 0) (s .words i k)) in
-    rw (eq-eqb (length m) RECORD_WORDS (s .size), e, s .vector)
+    rw (eq-eqb (length m) RECORD_WORDS (s .size), e, s .vector, eq-eqb (getD m WAIT_MASK 0) (waitingVoices m) (s .mask))
 
--- a word of a valid record is at most the bits that it keeps
-pub word-le : (m : List ℕ) → Sound m → (i : ℕ) → i < RECORD_WORDS → getD m i 0 ≤ bitsOf i
+-- a word is at most the bits that it keeps
+pub word-le : (m : List ℕ) → InRange m → (i : ℕ) → i < RECORD_WORDS → getD m i 0 ≤ bitsOf i
 unfolding cut
 word-le m s i h = subst (λ (x : ℕ). x ≤ bitsOf i) (s .words i h) (and-le-r (getD m i 0) (bitsOf i))
 
@@ -129,11 +143,21 @@ module _ (m : List ℕ) (d r : ℕ) (at k : ℕ → ℕ) (all : ℕ → Bool) (n
 found : (m : List ℕ) (i n k : ℕ) → n ≡ i → bitsOf n ≡ k → among (getD m n 0) k ≡ true → keptAt m i ≡ true
 found m i n k e b p = subst (λ (x : ℕ). keptAt m x ≡ true) e (rw b p)
 
--- all voices at once, the sums and the words between four by four, or word by word: one test
+-- a mask that is true has only bits that it keeps
+mask-cut : (m : List ℕ) → cut WAIT_MASK (waitingVoices m) ≡ waitingVoices m
+unfolding cut bitsOf sharedBits
+mask-cut m = and-mask (waitingVoices m) 32 ∙ mod-eq-of-lt (waiting-lt m)
+
+mask-kept : (m : List ℕ) → isTrueMask m ≡ true → keptAt m WAIT_MASK ≡ true
+unfolding isTrueMask cut
+mask-kept m h = rw (eqb-true (getD m WAIT_MASK 0) (waitingVoices m) h) (eq-eqb _ _ (mask-cut m))
+
+-- all voices at once, the sums and the words between four by four, and a mask that is true; or word by word, and the mask: one test
 module _ (m : List ℕ) where
-  words-found : gatheredKept m 20 ≡ true → sumsKept m 4 ≡ true → sharedKept m 4 ≡ true → (i : ℕ) → i < RECORD_WORDS → keptAt m i ≡ true
+  words-found : gatheredKept m 20 ≡ true → sumsKept m 4 ≡ true → sharedKept m 4 ≡ true → isTrueMask m ≡ true
+      → (i : ℕ) → i < RECORD_WORDS → keptAt m i ≡ true
   unfolding gatheredKept sumsKept sharedKept
-  words-found hv hs ha i h = cases i PAGE (keptAt m i ≡ true)
+  words-found hv hs ha hm i h = cases i PAGE (keptAt m i ≡ true)
       (λ l.
       let v = i / 20 in
       let j = i % 20 in
@@ -151,13 +175,15 @@ module _ (m : List ℕ) where
       (λ a. cases i (PAGE + 8) (keptAt m i ≡ true)
       (λ b. found m i (PAGE + 4 + j) _ (omega arith) refl (r .1))
       (λ b. found m i (PAGE + 8 + j) _ (omega arith) refl (p .1))))
-      (λ q.
+      (λ q. cases i WAIT_MASK (keptAt m i ≡ true)
+      (λ a.
       let v = (i - SUMS) / 4 in
       let j = (i - SUMS) % 4 in
       let vk : v < 3 = omega arith in
       let jk : j < 4 = omega arith in
       found m i (4 * v + (SUMS + j)) (bitsOf SUMS) (omega arith) (bits-sum v j vk jk)
-      (table-each m 4 3 (λ j. SUMS + j) (λ j. bitsOf SUMS) (sumsKept m) refl (λ j. refl) 4 hs v j vk jk)))
+      (table-each m 4 3 (λ j. SUMS + j) (λ j. bitsOf SUMS) (sumsKept m) refl (λ j. refl) 4 hs v j vk jk))
+      (λ a. found m i WAIT_MASK _ (omega arith) refl (mask-kept m hm))))
 
   module _ (f : (i : ℕ) → i < RECORD_WORDS → keptAt m i ≡ true) where
     voices-found : gatheredKept m 20 ≡ true
@@ -175,13 +201,17 @@ module _ (m : List ℕ) where
     shared-found = from-each (threeKept m) (sharedKept m) refl (λ j. refl) 4
         (λ l k. ap₂ _&&_ (ap₂ _&&_ (f (PAGE + l) (omega arith)) (f (PAGE + 4 + l) (omega arith))) (f (PAGE + 8 + l) (omega arith)))
 
-  pub words-test : (gatheredKept m 20 && sumsKept m 4 && sharedKept m 4) ≡ cutTo m RECORD_WORDS
-  words-test = same-bool (gatheredKept m 20 && sumsKept m 4 && sharedKept m 4) (cutTo m RECORD_WORDS)
+  pub words-test : ((gatheredKept m 20 && sumsKept m 4 && sharedKept m 4) && isTrueMask m) ≡ (cutTo m RECORD_WORDS && isTrueMask m)
+  words-test = same-bool ((gatheredKept m 20 && sumsKept m 4 && sharedKept m 4) && isTrueMask m) (cutTo m RECORD_WORDS && isTrueMask m)
       (λ h.
-      let p = both (gatheredKept m 20 && sumsKept m 4) (sharedKept m 4) h in
+      let o = both (gatheredKept m 20 && sumsKept m 4 && sharedKept m 4) (isTrueMask m) h in
+      let p = both (gatheredKept m 20 && sumsKept m 4) (sharedKept m 4) (o .0) in
       let q = both (gatheredKept m 20) (sumsKept m 4) (p .0) in
-      tests-all m RECORD_WORDS (words-found (q .0) (q .1) (p .1)))
-      (λ h. let f = tests-each m RECORD_WORDS h in ap₂ _&&_ (ap₂ _&&_ (voices-found f) (sums-found f)) (shared-found f))
+      ap₂ _&&_ (tests-all m RECORD_WORDS (words-found (q .0) (q .1) (p .1) (o .1))) (o .1))
+      (λ h.
+      let o = both (cutTo m RECORD_WORDS) (isTrueMask m) h in
+      let f = tests-each m RECORD_WORDS (o .0) in
+      ap₂ _&&_ (ap₂ _&&_ (ap₂ _&&_ (voices-found f) (sums-found f)) (shared-found f)) (o .1))
 
 -- ---- what keeps a record valid
 
@@ -197,8 +227,8 @@ cut-voice v j x h k =
     ap (bitAnd x) (bits-voice v j h k ∙ sym (rw e at (bits-voice 0 j (omega arith) k)))
 
 -- a store of a word that is cut already; of the vector, of one that is a vector
-pub sound-set : {m : List ℕ} (i x : ℕ) → Sound m → i < RECORD_WORDS → cut i x ≡ x → (i ≡ IRQV → isVector x ≡ true) → Sound (set m i x)
-sound-set {m} i x s h c q = record {
+pub range-set : {m : List ℕ} (i x : ℕ) → InRange m → i < RECORD_WORDS → cut i x ≡ x → (i ≡ IRQV → isVector x ≡ true) → InRange (set m i x)
+range-set {m} i x s h c q = record {
   size = length-set m i x ∙ s .size;
   words = λ k l. at k l (ℕ-discrete k i);
   vector = still (ℕ-discrete IRQV i);
@@ -213,10 +243,10 @@ sound-set {m} i x s h c q = record {
     still (no e) = rw (getD-set-other m i IRQV x 0 e) (s .vector)
 
 -- a put voice whose words are cut already
-pub sound-put : {m : List ℕ} (v : ℕ) (w : List ℕ) → Sound m → v < 32 → length w ≡ 20 → ((j : ℕ) → j < 20 → bitAnd (getD w j 0) (getD voiceBits j 0) ≡ getD w j 0)
-    → Sound (putVoice m v w)
+pub range-put : {m : List ℕ} (v : ℕ) (w : List ℕ) → InRange m → v < 32 → length w ≡ 20 → ((j : ℕ) → j < 20 → bitAnd (getD w j 0) (getD voiceBits j 0) ≡ getD w j 0)
+    → InRange (putVoice m v w)
 unfolding cut
-sound-put {m} v w s h long c =
+range-put {m} v w s h long c =
     let fits : 20 * v + 20 ≤ length m = omega (arith, s .size) in
     record {
       size = put-length m v w long fits ∙ s .size;
@@ -233,7 +263,35 @@ sound-put {m} v w s h long c =
       vector = rw (put-out m v w long fits IRQV (λ a b. omega arith)) (s .vector);
     }
 
--- a voice of a valid record has words that are cut already
-pub sound-voice : (m : List ℕ) → Sound m → (v j : ℕ) → v < 32 → j < 20 → bitAnd (getD (voiceAt m v) j 0) (getD voiceBits j 0) ≡ getD (voiceAt m v) j 0
+-- a voice has words that are cut already
+pub range-voice : (m : List ℕ) → InRange m → (v j : ℕ) → v < 32 → j < 20 → bitAnd (getD (voiceAt m v) j 0) (getD voiceBits j 0) ≡ getD (voiceAt m v) j 0
 unfolding cut
-sound-voice m s v j h k = rw (voice-word m v j k, ← (bits-voice v j h k)) (s .words (20 * v + j) (omega arith))
+range-voice m s v j h k = rw (voice-word m v j k, ← (bits-voice v j h k)) (s .words (20 * v + j) (omega arith))
+
+-- ---- and its mask true
+
+-- a record in range whose mask is made true is valid
+pub sound-masked : {m : List ℕ} → InRange m → Sound (withMask m)
+sound-masked {m} s =
+    let e = masked-mask m (omega (arith, s .size)) ∙ sym (masked-flags m) in
+    record {
+      size = masked-length m ∙ s .size;
+      words = λ i l. at i l (ℕ-discrete i WAIT_MASK);
+      vector = rw (masked-word m IRQV (λ d. omega arith)) (s .vector);
+      mask = e;
+    }
+  where
+    at : (i : ℕ) → i < RECORD_WORDS → Dec (i ≡ WAIT_MASK) → cut i (getD (withMask m) i 0) ≡ getD (withMask m) i 0
+    at i l (yes d) = rw (d, masked-mask m (omega (arith, s .size))) (mask-cut m)
+    at i l (no d) = rw (masked-word m i d) (s .words i l)
+
+-- a store at a shared word that is not the mask leaves it true
+pub sound-set : {m : List ℕ} (i x : ℕ) → Sound m → PAGE ≤ i → i < WAIT_MASK → cut i x ≡ x → (i ≡ IRQV → isVector x ≡ true) → Sound (set m i x)
+sound-set {m} i x s l h c q =
+    let r = range-set i x (in-range s) (omega arith) c q in
+    record {
+      size = r .size;
+      words = r .words;
+      vector = r .vector;
+      mask = getD-set-other m i WAIT_MASK x 0 (λ e. omega arith) ∙ s .mask ∙ sym (set-shared m i x l);
+    }

@@ -2,4 +2,5 @@ pub mod Words
 pub mod Voices
 pub mod Check
 pub mod Reset
+pub mod Waiting
 pub mod Kept

@@ -1,16 +1,18 @@
--- The machine record: its words by name, the bits that each keeps, and when a record is valid. Every rule that touches a word takes
--- its number and its bits from here.
--- In order: the sizes; the words of a voice; the shared words; the bits kept; a word cut to them; validity. Assumes nothing.
+-- The machine record: its words by name, the bits that each keeps, the mask of the waiting voices, and when a record is valid. Every rule
+-- that touches a word takes its number and its bits from here.
+-- In order: the sizes; the words of a voice; the shared words; the bits kept; a word cut to them; the waiting voices; validity. Assumes nothing.
 use Prim.Native.Nat.{ℕ, zero, suc, _+_, _-_, _*_, _%_, _^_}
 use mathlib.Core.Bool.{Bool, true, cond, not, _&&_, _||_}
 use mathlib.Core.List.{List, [], _∷_}
 use lib.Bits.{bitAnd}
 use lib.Dec.{eqb, ltb}
-use lib.ListN.{length, getD}
+use lib.ListN.{length, getD, set}
+use Rattle.numbers.specs.Sum.{sum}
+use Rattle.control.specs.Control.{bitOf, flagOf, IRQ}
 
 -- how many words a record has; how many voices it has, and how many words each
 abbrev pub RECORD_WORDS : ℕ
-RECORD_WORDS = 663
+RECORD_WORDS = 664
 
 abbrev pub VOICES : ℕ
 VOICES = 32
@@ -130,6 +132,10 @@ SUMS = 651
 abbrev pub OUTPUT_VALUES : ℕ
 OUTPUT_VALUES = 12
 
+-- the mask of the waiting voices
+abbrev pub WAIT_MASK : ℕ
+WAIT_MASK = 663
+
 -- what the interrupt vector holds where it names no voice
 abbrev pub NO_INTERRUPT : ℕ
 NO_INTERRUPT = 128
@@ -154,7 +160,7 @@ voiceBits =
     ∷ bits 31 11 ∷ bits 31 7 ∷ bits 31 0
     ∷ bits 17 0 ∷ bits 17 0 ∷ bits 17 0 ∷ bits 17 0 ∷ bits 17 0 ∷ bits 17 0 ∷ []
 
--- by the shared words: PAGE, IRQV, PAR, ACTV, MODE; W_ST, W_END, LR_END; the slow-ramp counter; the latches; the sums
+-- by the shared words: PAGE, IRQV, PAR, ACTV, MODE; W_ST, W_END, LR_END; the slow-ramp counter; the latches; the sums; the mask
 unfoldable pub sharedBits : List ℕ
 sharedBits =
     bits 6 0 ∷ bits 7 0 ∷ bits 9 0 ∷ bits 4 0 ∷ bits 4 0
@@ -162,7 +168,8 @@ sharedBits =
     ∷ bits 2 0
     ∷ bits 31 0 ∷ bits 31 0
     ∷ bits 22 0 ∷ bits 22 0 ∷ bits 22 0 ∷ bits 22 0 ∷ bits 22 0 ∷ bits 22 0
-    ∷ bits 22 0 ∷ bits 22 0 ∷ bits 22 0 ∷ bits 22 0 ∷ bits 22 0 ∷ bits 22 0 ∷ []
+    ∷ bits 22 0 ∷ bits 22 0 ∷ bits 22 0 ∷ bits 22 0 ∷ bits 22 0 ∷ bits 22 0
+    ∷ bits 31 0 ∷ []
 
 -- by word i
 unfoldable pub bitsOf : ℕ → ℕ
@@ -176,6 +183,20 @@ voiceRange j = getD voiceBits j 0 + 1
 unfoldable pub cut : ℕ → ℕ → ℕ
 cut i x = bitAnd x (bitsOf i)
 
+-- ---- the waiting voices
+
+-- voice v waits: its interrupt flag is set
+abbrev pub waits : List ℕ → ℕ → Bool
+waits m v = flagOf IRQ (getD m (voiceWord v CR) 0)
+
+-- the mask that the control registers make: bit v is the interrupt flag of voice v, of all voices, active or not
+unfoldable pub waitingVoices : List ℕ → ℕ
+waitingVoices m = sum VOICES (λ v. bitOf IRQ (getD m (voiceWord v CR) 0) * 2 ^ v)
+
+-- the record with its mask made true
+unfoldable pub withMask : List ℕ → List ℕ
+withMask m = set m WAIT_MASK (waitingVoices m)
+
 -- ---- validity
 
 -- each of the first n words has only bits that it keeps
@@ -187,5 +208,9 @@ cutTo m (suc i) = cutTo m i && eqb (cut i (getD m i 0)) (getD m i 0)
 unfoldable pub isVector : ℕ → Bool
 isVector x = ltb x VOICES || eqb x NO_INTERRUPT
 
+-- the mask is true
+unfoldable pub isTrueMask : List ℕ → Bool
+isTrueMask m = eqb (getD m WAIT_MASK 0) (waitingVoices m)
+
 unfoldable pub valid : List ℕ → Bool
-valid m = eqb (length m) RECORD_WORDS && (cutTo m RECORD_WORDS && isVector (getD m IRQV 0))
+valid m = eqb (length m) RECORD_WORDS && (cutTo m RECORD_WORDS && (isVector (getD m IRQV 0) && isTrueMask m))

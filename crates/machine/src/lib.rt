@@ -1,17 +1,20 @@
-// The machine record: its words by name, the bits that each keeps, the check that every call begins with, and reset.
+// The machine record: its words by name, the bits that each keeps, the check that every call begins with, reset, and the waiting voices.
 ghost use mathlib.Core.Path.{_≡_};
 ghost use mathlib.Core.Bool.{_&&_};
 ghost use Prim.Native.Nat.{_+_, _<_, _≤_};
-ghost use lib.ListN.{length};
-ghost use Rattle.machine.specs.Words.{bitsOf, voiceBits, sharedBits, RECORD_WORDS as Words·RECORD_WORDS, O3N2 as Words·O3N2};
+ghost use lib.ListN.{length, getD};
+ghost use Rattle.control.specs.Control.{withBit};
+ghost use Rattle.machine.specs.Words.{bitsOf, voiceBits, sharedBits, RECORD_WORDS as Words·RECORD_WORDS, VOICES as Words·VOICES, O3N2 as Words·O3N2};
+ghost use Rattle.machine.specs.Words.{WAIT_MASK as Words·WAIT_MASK, waitingVoices, withMask};
 ghost use Rattle.machine.specs.Kept.{inVoices, gatheredKept, sumsKept, sharedKept, Lanes};
 ghost use Rattle.machine.specs.Check.{checked};
 ghost use Rattle.machine.specs.Reset.{Resets, fresh};
 ghost use Rattle.machine.specs.Reset.{resetWord as Reset·resetWord};
+ghost use Rattle.machine.specs.Waiting.{Waits};
 use answer::Answer;
 
 // How many words a record has; how many voices it has, and how many words each.
-pub const RECORD_WORDS: usize = 663;
+pub const RECORD_WORDS: usize = 664;
 
 pub const VOICES: usize = 32;
 
@@ -88,8 +91,11 @@ pub const OUTPUT_VALUES: usize = 12;
 
 pub const SUMS_END: usize = SUMS + OUTPUT_VALUES;
 
+// The mask of the waiting voices: bit v is the interrupt flag of voice v.
+pub const WAIT_MASK: usize = 663;
+
 // How many shared words there are.
-pub const SHARED_WORDS: usize = 23;
+pub const SHARED_WORDS: usize = 24;
 
 // What the interrupt vector holds where it names no voice.
 pub const NO_INTERRUPT: u32 = 128;
@@ -150,6 +156,7 @@ const SHARED_BITS: [u32; SHARED_WORDS] = [
     SUM_BITS, // sum 4R
     SUM_BITS, // sum 5L
     SUM_BITS, // sum 5R
+    0xFFFF_FFFF, // the mask
 ];
 
 // The bits that word i keeps.
@@ -166,8 +173,8 @@ pub fn bits_of(i: usize) -> u32
     }
 }
 
-// Whether a record may be used: its length, then its words, then the vector. The stray bits of all words go into four lanes, which are
-// judged when all are in, so that the compiler takes four words at a time.
+// Whether a record may be used: its length, then its words and its mask, then the vector. The stray bits of all words go into four lanes, so that
+// the compiler takes four words at a time; they are judged when all are in, and with them the bits in which the mask is false.
 pub fn check(m: &[u32]) -> Answer
     ensures { λ r. ⌜ r ≡ checked (now (m .entry)) ⌝ }
 {
@@ -181,7 +188,8 @@ pub fn check(m: &[u32]) -> Answer
     }
     let shared = SHARED_BITS;
     look_at_rest(m, &shared, &mut stray);
-    if stray[0] | stray[1] | stray[2] | stray[3] != 0 {
+    let false_bits = m[WAIT_MASK] ^ gather_flags(m);
+    if stray[0] | stray[1] | stray[2] | stray[3] | false_bits != 0 {
         return Answer::RecordInvalid;
     }
     let vector = m[IRQV];
@@ -255,6 +263,51 @@ fn gather_last(m: &[u32], l: usize) -> u32
         all = all | m[VOICE_WORDS * v + O3N2 + l];
     }
     all
+}
+
+// The mask that the control registers make. From the last voice down each flag joins those above it, which move up; all stand where CR has
+// its flag until they are in, since a flag that stays where it is takes one instruction less.
+fn gather_flags(m: &[u32]) -> u32
+    requires { ⌜ length (now m) ≡ Words·RECORD_WORDS ⌝ }
+    ensures { λ r. ⌜ r ≡ waitingVoices (now (m .entry)) ⌝ }
+{
+    let mut flags: u64 = 0;
+    for i in 0..VOICES {
+        let cr = m[VOICE_WORDS * (VOICES - 1 - i) + CR];
+        flags = 2 * flags + (control::bit(control::IRQ, cr) << control::IRQ) as u64;
+    }
+    (flags >> control::IRQ) as u32
+}
+
+// The mask is true of every voice but v, whose flag is b now: it is made true.
+pub fn mark(m: &mut [u32], v: usize, b: u32)
+    requires { ⌜ length (now m) ≡ Words·RECORD_WORDS ⌝ }
+    requires { ⌜ (v < Words·VOICES) × (b ≤ 1) ⌝ }
+    requires { ⌜ waitingVoices (now m) ≡ withBit v b (getD (now m) Words·WAIT_MASK 0) ⌝ }
+    ensures { λ _. ⌜ now (m .exit) ≡ withMask (now (m .entry)) ⌝ }
+{
+    let mask = m[WAIT_MASK];
+    m[WAIT_MASK] = control::put(v as u32, b, mask);
+}
+
+// What the waiting voices' call gives: its answer, and the mask.
+pub struct Waiters {
+    pub answer: Answer,
+    pub mask: u32,
+}
+
+// Which voices wait, for the host to see in one look.
+pub fn waiting(m: &[u32]) -> Waiters
+    ensures { λ r. ⌜ Waits (now (m .entry)) (r .answer) (r .mask) ⌝ }
+{
+    let a = check(m);
+    let Answer::Done = a else {
+        return Waiters { answer: a, mask: 0 };
+    };
+    Waiters {
+        answer: Answer::Done,
+        mask: m[WAIT_MASK],
+    }
 }
 
 // The record as it is after power-on. The old contents do not matter; only a record of another length is refused.

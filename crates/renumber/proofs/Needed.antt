@@ -26,7 +26,7 @@ use Rattle.registers.specs.Access.{byteAnswer, writeRecord, readRecord}
 use Rattle.voice.specs.Turn.{rampedLevels, withOutputs, moved, sampled, stoppedTurn, runningTurn, turnOf, lastOutputs}
 use Rattle.voice.specs.Voice.{wordsOf}
 use Rattle.voice.specs.Missed.{missedBy}
-use Rattle.frame.specs.Sum.{sum}
+use Rattle.numbers.specs.Sum.{sum}
 use Rattle.frame.specs.Missing.{missedIn}
 use Rattle.frame.specs.Frame.{addedTo, added, signalled, turnAt, turns, heard, silenced, closed, played, frameAnswer, frameRecord, frameOutput, frameMissing}
 use Rattle.calls.specs.Calls.{Call, Write, Read, Frame, after, givenBy, outputFrom, run, outputs}

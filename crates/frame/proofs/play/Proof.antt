@@ -17,7 +17,7 @@ use Rattle.machine.specs.Voices.{voiceAt}
 use Rattle.machine.proofs.Valid.{Sound, sound, is-valid}
 use Rattle.voice.specs.Voice.{voiceOf}
 use Rattle.voice.specs.Missed.{missedBy}
-use Rattle.frame.specs.Sum.{sum}
+use Rattle.numbers.specs.Sum.{sum}
 use Rattle.frame.specs.Frame.{turnAt, turns, played}
 use Rattle.frame.proofs.Keeps.{active-le, sound-turns}
 use Rattle.frame.proofs.Leaves.{slow-stays, turned}

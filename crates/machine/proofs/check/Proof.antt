@@ -11,7 +11,7 @@ use Rattle.answer.specs.declared.Answer.the-variants.{Done, RecordInvalid}
 use Rattle.machine.specs.Words.{voiceBits, sharedBits, isVector, IRQV}
 use Rattle.machine.specs.Kept.{gatheredKept, clear, Lanes}
 use Rattle.machine.specs.Check.{checked}
-use Rattle.machine.proofs.Kept.{four-lanes}
+use Rattle.machine.proofs.Kept.{lanes-and-mask}
 use Rattle.machine.proofs.Valid.{words-test}
 use Rattle.machine.proofs.Answers.{check-size, check-stray, check-vector}
 use Rattle.machine.proofs.check.Statement.{statement}
@@ -46,18 +46,22 @@ look-at-rest-requires c κs =
 
 returns-2 : tie.Need-returns-2 Inv-loop μ-loop
 returns-2 c =
-    let e = c .before .before .before .before .before .before in
+    let g = c .before in
+    let e = g .before .before .before .before .before .before .before in
     let m = e .before .before .args .m .now in
-    sym (check-stray m (e .if1 .left) (sym (four-lanes (c .before .look-at-rest .ensures) ∙ words-test m) ∙ ne-eqb _ _ (c .if2 .taken)))
+    sym (check-stray m (e .if1 .left)
+    (sym (lanes-and-mask m _ (g .before .before .look-at-rest .ensures) (g .gather-flags .ensures) ∙ words-test m) ∙ ne-eqb _ _ (c .if2 .taken)))
 
--- past the lanes' test, the vector decides
+-- past that test, the vector decides
 by-vector : (c : tie.Else2 Inv-loop μ-loop) (b : Bool)
-    → isVector (getD (c .before .before .before .before .before .before .before .before .args .m .now) IRQV 0) ≡ b
-    → cond b Done RecordInvalid ≡ checked (c .before .before .before .before .before .before .before .before .args .m .now)
+    → isVector (getD (c .before .before .before .before .before .before .before .before .before .before .args .m .now) IRQV 0) ≡ b
+    → cond b Done RecordInvalid ≡ checked (c .before .before .before .before .before .before .before .before .before .before .args .m .now)
 by-vector c b q =
-    let e = c .before .before .before .before .before .before in
+    let g = c .before in
+    let e = g .before .before .before .before .before .before .before in
     let m = e .before .before .args .m .now in
-    sym (check-vector m (e .if1 .left) (sym (four-lanes (c .before .look-at-rest .ensures) ∙ words-test m) ∙ eq-eqb _ _ (c .if2 .left)) b q)
+    sym (check-vector m (e .if1 .left)
+    (sym (lanes-and-mask m _ (g .before .before .look-at-rest .ensures) (g .gather-flags .ensures) ∙ words-test m) ∙ eq-eqb _ _ (c .if2 .left)) b q)
 
 returns-3 : tie.Need-returns-3 Inv-loop μ-loop
 unfolding isVector
@@ -85,6 +89,8 @@ check-spec =
     (λ c. search needs)
     loop-again
     look-at-rest-requires
+    (λ c. search needs)
+    (λ c κs. search needs)
     (λ c. search needs)
     (λ c. search needs)
     (λ c. search needs)

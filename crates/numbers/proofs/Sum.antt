@@ -1,16 +1,17 @@
 -- Sums over the numbers below k, and that a renumbering of these leaves them as they were. It is asked to lead to numbers below k, and to be
 -- one-to-one; that it is onto is counted here.
--- In order: sums (`sum-ext`, `sum-most`, `sum-zeros`, `none-summed`); a number that is hit or missed; how often a map hits a number; the two
+-- In order: sums (`sum-ext`, `sum-changed`, `sum-most`, `sum-zeros`, `none-summed`); a number that is hit or missed; how often a map hits a number; the two
 -- laws (`sum-renumbered`, `maps-outside`). That sums of channels may be taken in any order is `channel/proofs/Laws`. Assumes nothing.
 use mathlib.Core.Path.{_≡_, refl, sym, ap, _∙_}
 use mathlib.Core.Bool.{cond}
+use mathlib.Core.Logic.{_≢_}
 use Prim.Native.Nat.{ℕ, zero, suc, _+_, _*_, _≤_, _<_}
 use native.Mathlib.Nat.{le-refl, zero-mul, one-mul, mul-one, not-suc-le-zero}
 use native.Mathlib.Omega.{arith}
 use lib.Dec.{eqb}
 use borrow.Author.Tests.{eqb-true, eqb-false, ne-eqb}
 use Rattle.numbers.proofs.Tests.{split, cases}
-use Rattle.frame.specs.Sum.{sum}
+use Rattle.numbers.specs.Sum.{sum}
 
 -- ---- sums
 
@@ -18,6 +19,14 @@ pub sum-ext : (k : ℕ) (f g : ℕ → ℕ) → ((v : ℕ) → v < k → f v ≡
 unfolding sum
 sum-ext zero f g h = refl
 sum-ext (suc k) f g h = cc (sum-ext k f g (λ v l. h v (omega arith)), h k (omega arith))
+
+-- two sums that differ in the number at u alone
+pub sum-changed : (k u : ℕ) (f g : ℕ → ℕ) → u < k → ((v : ℕ) → v < k → v ≢ u → f v ≡ g v) → sum k f + g u ≡ sum k g + f u
+unfolding sum
+sum-changed zero u f g h e = absurd (not-suc-le-zero h)
+sum-changed (suc k) u f g h e = cases u k _
+    (λ l. omega (arith, sum-changed k u f g l (λ v a d. e v (omega arith) d), e k (omega arith) (λ q. omega arith)))
+    (λ l. let q : u ≡ k = omega arith in rw q (omega (arith, sum-ext k f g (λ v a. e v (omega arith) (λ d. omega arith)))))
 
 sum-add : (k : ℕ) (f g : ℕ → ℕ) → sum k (λ v. f v + g v) ≡ sum k f + sum k g
 unfolding sum

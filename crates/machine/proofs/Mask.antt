@@ -1,0 +1,117 @@
+-- The mask of the waiting voices.
+-- In order: each of its bits (`flag-le`, `bit-waits`, `flag-waits`), its range (`waiting-lt`), that it is 0 where no voice waits and nowhere else
+-- (`none-waits`, `waits-none`); records of which one voice's flag may differ, or none (`one-flag`, `same-flags`); a store in a word that is no control
+-- register (`set-shared`); the record with its mask made true (`masked-length`, `masked-mask`, `masked-word`, `masked-voice`, `masked-flags`,
+-- `masked-same`). Assumes nothing.
+use mathlib.Core.Path.{_≡_, refl, sym, ap, _∙_}
+use mathlib.Core.Bool.{true, false}
+use mathlib.Core.List.{List}
+use mathlib.Core.Logic.{_≢_}
+use Prim.Native.Nat.{ℕ, _+_, _*_, _/_, _^_, _<_, _≤_}
+use native.Mathlib.Nat.{zero-mul, div-eq-of-lt, div-le-self}
+use native.Mathlib.Omega.{arith}
+use lib.Dec.{eqb}
+use lib.Pow.{pow-pos}
+use lib.ListN.{length, getD, set, length-set}
+use lib.Seq.{getD-set-same, getD-set-other, set-getD}
+use borrow.Author.Tests.{eqb-true, eqb-false, ne-eqb}
+use Rattle.numbers.proofs.Tests.{split}
+use Rattle.numbers.proofs.Sum.{sum-ext, sum-zeros}
+use Rattle.control.specs.Control.{bitOf, flagOf, withBit, IRQ}
+use Rattle.control.proofs.Bits.{bit-le, joined}
+use Rattle.control.proofs.Mask.{mask-lt, mask-bit, mask-changed}
+use Rattle.machine.specs.Words.{RECORD_WORDS, VOICES, PAGE, CR, WAIT_MASK, voiceWord, waits, waitingVoices, withMask}
+use Rattle.machine.specs.Voices.{voiceAt}
+use Rattle.machine.proofs.Parts.{voice-set-shared}
+
+-- the interrupt flag of voice v as a bit
+abbrev flagBit : List ℕ → ℕ → ℕ
+flagBit m v = bitOf IRQ (getD m (voiceWord v CR) 0)
+
+-- ---- its bits
+
+module _ (m : List ℕ) where
+  pub bit-waits : (v : ℕ) → v < VOICES → bitOf v (waitingVoices m) ≡ bitOf IRQ (getD m (voiceWord v CR) 0)
+  unfolding waitingVoices
+  bit-waits v h = mask-bit (flagBit m) (λ u. bit-le IRQ (getD m (voiceWord u CR) 0)) VOICES v h
+
+  -- bit v is set exactly where voice v waits
+  pub flag-waits : (v : ℕ) → v < VOICES → flagOf v (waitingVoices m) ≡ waits m v
+  unfolding flagOf
+  flag-waits v h = ap (λ (x : ℕ). eqb x 1) (bit-waits v h)
+
+  pub waiting-lt : waitingVoices m < 2 ^ 32
+  unfolding waitingVoices
+  waiting-lt = mask-lt (flagBit m) (λ u. bit-le IRQ (getD m (voiceWord u CR) 0)) VOICES
+
+  -- so it is 0 exactly where no voice waits
+  pub none-waits : waitingVoices m ≡ 0 → (v : ℕ) → v < VOICES → waits m v ≡ false
+  unfolding flagOf bitOf
+  none-waits e v h = let z : 0 / 2 ^ v ≡ 0 = div-eq-of-lt (pow-pos v) in sym (flag-waits v h) ∙ rw (e, z)
+
+  pub waits-none : ((v : ℕ) → v < VOICES → waits m v ≡ false) → waitingVoices m ≡ 0
+  unfolding waitingVoices flagOf
+  waits-none f = sum-zeros VOICES (λ v. flagBit m v * 2 ^ v)
+      (λ v h.
+      let b = bit-le IRQ (getD m (voiceWord v CR) 0) in
+      let d = eqb-false (flagBit m v) 1 (f v h) in
+      let z : flagBit m v ≡ 0 = omega arith in
+      ap (λ (x : ℕ). x * 2 ^ v) z ∙ zero-mul (2 ^ v))
+
+  -- its part from voice v on, by the voice's flag and the part after it
+  pub flags-from : (v : ℕ) → v < VOICES → 2 * (waitingVoices m / 2 ^ (v + 1)) + bitOf IRQ (getD m (voiceWord v CR) 0) ≡ waitingVoices m / 2 ^ v
+  flags-from v h = sym (joined v (waitingVoices m) ∙ ap (λ (x : ℕ). 2 * (waitingVoices m / 2 ^ (v + 1)) + x) (bit-waits v h))
+
+  pub flags-small : (v : ℕ) → waitingVoices m / 2 ^ v < 2 ^ 32
+  flags-small v = omega (arith, div-le-self (waitingVoices m) (2 ^ v), waiting-lt)
+
+-- ---- one voice's flag, or none
+
+-- n has the control registers of m, but that of voice v may be another
+pub one-flag : (m n : List ℕ) (v : ℕ) → v < VOICES
+    → ((u : ℕ) → u < VOICES → u ≢ v → getD n (voiceWord u CR) 0 ≡ getD m (voiceWord u CR) 0)
+    → waitingVoices n ≡ withBit v (bitOf IRQ (getD n (voiceWord v CR) 0)) (waitingVoices m)
+unfolding waitingVoices
+one-flag m n v h e =
+    mask-changed (flagBit m) (flagBit n) (λ u. bit-le IRQ (getD m (voiceWord u CR) 0)) VOICES v h (λ u l d. ap (bitOf IRQ) (e u l d))
+
+-- n has all of them
+pub same-flags : (m n : List ℕ) → ((u : ℕ) → u < VOICES → getD n (voiceWord u CR) 0 ≡ getD m (voiceWord u CR) 0) → waitingVoices n ≡ waitingVoices m
+unfolding waitingVoices
+same-flags m n e = sum-ext VOICES _ _ (λ u l. ap (λ (x : ℕ). bitOf IRQ x * 2 ^ u) (e u l))
+
+-- a store at a word that is no control register
+pub set-flags : (m : List ℕ) (i x : ℕ) → ((u : ℕ) → u < VOICES → voiceWord u CR ≢ i) → waitingVoices (set m i x) ≡ waitingVoices m
+set-flags m i x d = same-flags m (set m i x) (λ u l. getD-set-other m i (voiceWord u CR) x 0 (d u l))
+
+-- such as one of the shared words
+pub set-shared : (m : List ℕ) (i x : ℕ) → PAGE ≤ i → waitingVoices (set m i x) ≡ waitingVoices m
+set-shared m i x h = set-flags m i x (λ u l e. omega arith)
+
+-- ---- the record with its mask made true
+
+module _ (m : List ℕ) where
+  pub masked-length : length (withMask m) ≡ length m
+  unfolding withMask
+  masked-length = length-set m WAIT_MASK (waitingVoices m)
+
+  pub masked-flags : waitingVoices (withMask m) ≡ waitingVoices m
+  unfolding withMask
+  masked-flags = set-shared m WAIT_MASK (waitingVoices m) (omega arith)
+
+  pub masked-mask : WAIT_MASK < length m → getD (withMask m) WAIT_MASK 0 ≡ waitingVoices m
+  unfolding withMask
+  masked-mask h = getD-set-same m WAIT_MASK (waitingVoices m) 0 h
+
+  pub masked-word : (i : ℕ) → i ≢ WAIT_MASK → getD (withMask m) i 0 ≡ getD m i 0
+  unfolding withMask
+  masked-word i d = getD-set-other m WAIT_MASK i (waitingVoices m) 0 d
+
+  pub masked-voice : (v : ℕ) → length m ≡ RECORD_WORDS → v < VOICES → voiceAt (withMask m) v ≡ voiceAt m v
+  unfolding withMask
+  masked-voice v l h = voice-set-shared m v WAIT_MASK (waitingVoices m) l h (omega arith)
+
+  -- where it is true it stays
+  pub masked-same : getD m WAIT_MASK 0 ≡ waitingVoices m → withMask m ≡ m
+  unfolding withMask
+  masked-same e = ap (set m WAIT_MASK) (sym e) ∙ set-getD m WAIT_MASK 0
