@@ -1,9 +1,9 @@
--- The mask of the waiting voices.
--- In order: each of its bits (`flag-le`, `bit-waits`, `flag-waits`), its range (`waiting-lt`), that it is 0 where no voice waits and nowhere else
--- (`none-waits`, `waits-none`); records of which one voice's flag may differ, or none (`one-flag`, `same-flags`); a store in a word that is no control
--- register (`set-shared`); the record with its mask made true (`masked-length`, `masked-mask`, `masked-word`, `masked-voice`, `masked-flags`,
--- `masked-same`). Assumes nothing.
-use mathlib.Core.Path.{_≡_, refl, sym, ap, _∙_}
+-- The mask of the waiting voices, as the control registers make it.
+-- In order: each of its bits (`bit-waits`, `flag-waits`), its range (`waiting-lt`), that it is 0 where no voice waits and nowhere else
+-- (`none-waits`, `waits-none`), its part from a voice on (`flags-from`, `flags-small`); two records in which one voice's flag may differ, or none
+-- (`one-flag`, `same-flags`, `set-flags`, `set-shared`, `one-marked`); the record with its mask made true (`masked-…`). That such a record is valid
+-- is Valid. Assumes nothing.
+use mathlib.Core.Path.{_≡_, sym, ap, ap₂, _∙_}
 use mathlib.Core.Bool.{true, false}
 use mathlib.Core.List.{List}
 use mathlib.Core.Logic.{_≢_}
@@ -13,7 +13,7 @@ use native.Mathlib.Omega.{arith}
 use lib.Dec.{eqb}
 use lib.Pow.{pow-pos}
 use lib.ListN.{length, getD, set, length-set}
-use lib.Seq.{getD-set-same, getD-set-other, set-getD}
+use lib.Seq.{getD-set-same, getD-set-other, set-getD, set-comm}
 use borrow.Author.Tests.{eqb-true, eqb-false, ne-eqb}
 use Rattle.numbers.proofs.Tests.{split}
 use Rattle.numbers.proofs.Sum.{sum-ext, sum-zeros}
@@ -88,6 +88,12 @@ set-flags m i x d = same-flags m (set m i x) (λ u l. getD-set-other m i (voiceW
 pub set-shared : (m : List ℕ) (i x : ℕ) → PAGE ≤ i → waitingVoices (set m i x) ≡ waitingVoices m
 set-shared m i x h = set-flags m i x (λ u l e. omega arith)
 
+-- so where the mask of m was true, and n has it still, that voice's bit makes it true of n
+pub one-marked : (m n : List ℕ) (v b : ℕ) → getD m WAIT_MASK 0 ≡ waitingVoices m → getD n WAIT_MASK 0 ≡ getD m WAIT_MASK 0 → v < VOICES
+    → ((u : ℕ) → u < VOICES → u ≢ v → getD n (voiceWord u CR) 0 ≡ getD m (voiceWord u CR) 0) → bitOf IRQ (getD n (voiceWord v CR) 0) ≡ b
+    → waitingVoices n ≡ withBit v b (getD n WAIT_MASK 0)
+one-marked m n v b t s h e f = one-flag m n v h e ∙ ap₂ (λ (x y : ℕ). withBit v x y) f (sym (s ∙ t))
+
 -- ---- the record with its mask made true
 
 module _ (m : List ℕ) where
@@ -115,3 +121,16 @@ module _ (m : List ℕ) where
   pub masked-same : getD m WAIT_MASK 0 ≡ waitingVoices m → withMask m ≡ m
   unfolding withMask
   masked-same e = ap (set m WAIT_MASK) (sym e) ∙ set-getD m WAIT_MASK 0
+
+  -- and it stays under a store that is of no control register
+  pub masked-set : (i x : ℕ) → getD m WAIT_MASK 0 ≡ waitingVoices m → ((u : ℕ) → u < VOICES → voiceWord u CR ≢ i) → i ≢ WAIT_MASK
+      → withMask (set m i x) ≡ set m i x
+  unfolding withMask
+  masked-set i x e d w =
+      let k : getD (set m i x) WAIT_MASK 0 ≡ waitingVoices (set m i x) = getD-set-other m i WAIT_MASK x 0 (λ q. w (sym q)) ∙ e ∙ sym (set-flags m i x d) in
+      ap (set (set m i x) WAIT_MASK) (sym k) ∙ set-getD (set m i x) WAIT_MASK 0
+
+  -- a store at a shared word may be made before or after
+  pub masked-after : (i x : ℕ) → PAGE ≤ i → i ≢ WAIT_MASK → withMask (set m i x) ≡ set (withMask m) i x
+  unfolding withMask
+  masked-after i x h w = ap (set (set m i x) WAIT_MASK) (set-shared m i x h) ∙ set-comm m i WAIT_MASK x (waitingVoices m) w

@@ -13,9 +13,10 @@ use lib.Seq.{getD-set-other}
 use Rattle.numbers.proofs.Tests.{either}
 use Rattle.answer.specs.Answer.{isDone}
 use Rattle.answer.specs.declared.Answer.the-variants.{Pot}
-use Rattle.machine.specs.Words.{PAGE, PAR, WRITE_LATCH, voiceWord, cut, valid}
+use Rattle.machine.specs.Words.{PAGE, PAR, WRITE_LATCH, RECORD_WORDS, voiceWord, cut, withMask, valid}
 use Rattle.machine.specs.Voices.{voiceAt}
-use Rattle.machine.proofs.Parts.{voice-set, voice-set-out}
+use Rattle.machine.proofs.Parts.{voice-set, voice-set-out, voice-set-shared}
+use Rattle.machine.proofs.Mask.{masked-length, masked-voice}
 use Rattle.machine.proofs.Valid.{sound, is-valid}
 use Rattle.registers.specs.declared.Register.the-variants.{Word}
 use Rattle.registers.specs.Registers.{registerOf, stored, writtenTo, readFrom}
@@ -72,17 +73,19 @@ pot-keeps m p i d = either (λ (n : List ℕ). getD n i 0 ≡ getD m i 0) (isDon
 -- PAGE and register r name word j of voice v, and the four bytes of x are written to r in order.
 module _ (m : List ℕ) (r x v j : ℕ) (ok : valid m ≡ true) (hr : r < 16) (hx : x < 2 ^ 32) (hv : v < 32) (hj : j < 20)
     (named : registerOf (getD m PAGE 0) r ≡ Word (voiceWord v j)) where
-  -- The word takes x, cut to its bits, and the write latch is 0, whatever it held; nothing else changes.
-  pub whole-leaves : wholeWrite m r x ≡ set (set m (voiceWord v j) (cut (voiceWord v j) x)) WRITE_LATCH 0
+  -- The word takes x, cut to its bits, and the write latch is 0, whatever it held; the mask follows, and nothing else changes.
+  pub whole-leaves : wholeWrite m r x ≡ set (withMask (set m (voiceWord v j) (cut (voiceWord v j) x))) WRITE_LATCH 0
   unfolding stored
   whole-leaves = whole-write m r x (sound m ok) hr hx ∙ rw named
 
   fits : (u : ℕ) → u < 32 → 20 * u + 20 ≤ length m
   fits u h = omega (arith, sound m ok .size)
 
-  -- a store at the latch is at none of a voice's words
-  under-latch : (n : List ℕ) (u : ℕ) → u < 32 → length n ≡ length m → voiceAt (set n WRITE_LATCH 0) u ≡ voiceAt n u
-  under-latch n u h e = voice-set-out n u WRITE_LATCH 0 (omega (arith, fits u h)) (λ i k q. omega arith)
+  -- the latch and the mask are none of a voice's words
+  under-latch : (n : List ℕ) (u : ℕ) → u < 32 → length n ≡ length m → voiceAt (set (withMask n) WRITE_LATCH 0) u ≡ voiceAt n u
+  under-latch n u h e =
+      let l : length n ≡ RECORD_WORDS = e ∙ sound m ok .size in
+      voice-set-shared (withMask n) u WRITE_LATCH 0 (masked-length n ∙ l) h (omega arith) ∙ masked-voice n u l h
 
   -- So the voice has one word replaced,
   pub whole-voice : voiceAt (wholeWrite m r x) v ≡ set (voiceAt m v) j (cut (voiceWord v j) x)

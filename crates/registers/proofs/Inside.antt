@@ -1,4 +1,4 @@
--- What a page and a register number name is a word of the record and not the vector, or has no word. Assumes nothing.
+-- What a page and a register number name is a word before the mask and not the vector, a sum, or has no word. Assumes nothing.
 use mathlib.Core.Path.{_≡_}
 use Prim.Native.Nat.{ℕ, _+_, _-_, _*_, _<_}
 use native.Mathlib.Omega.{arith}
@@ -26,7 +26,7 @@ module _ (r : ℕ) (small : r < 13) where
 
   sums : Inside (sumPage r)
   unfolding sumPage
-  sums = either Inside (ltb r 12) _ _ (λ t. let q = ltb-true r 12 t in (omega arith, λ (z : SUMS + r ≡ IRQV). omega arith)) (λ _. tt)
+  sums = either Inside (ltb r 12) _ _ (λ t. let q = ltb-true r 12 t in (omega arith, omega arith)) (λ _. tt)
 
 below : (r : ℕ) → r < 16 → (r ≡ 13 → ⊥) → (r ≡ 14 → ⊥) → (r ≡ 15 → ⊥) → r < 13
 below r h a b c = omega arith

@@ -1,5 +1,5 @@
 -- What a byte read leaves.
--- In order: a fact of the record holds after a read if it holds before it and of what byte 0 of the register leaves (`after-read`); every word but four is
+-- In order: a fact of the record holds after a read if it holds before it and of what byte 0 of the register leaves (`after-read`); every word but five is
 -- as it was (`read-keeps`, and of the words that voices share, on a valid record, `read-shared`), and of a control register every bit but the
 -- interrupt flag (`read-flag`); byte 0 of the vector (`read-vector`).
 -- That the record stays valid, and that a refused read leaves it, is Corollaries. Assumes nothing.
@@ -18,8 +18,9 @@ use Rattle.numbers.proofs.Tests.{either, cases}
 use Rattle.answer.specs.Answer.{isDone}
 use Rattle.control.specs.Control.{IRQ, bitOf, withBit}
 use Rattle.control.proofs.Bits.{read-other}
-use Rattle.machine.specs.Words.{CR, PAGE, IRQV, PAR, READ_LATCH, voiceWord, isVector, RECORD_WORDS}
+use Rattle.machine.specs.Words.{CR, PAGE, IRQV, PAR, READ_LATCH, WAIT_MASK, voiceWord, isVector, withMask, RECORD_WORDS}
 use Rattle.machine.proofs.Valid.{Sound}
+use Rattle.machine.proofs.Mask.{masked-word}
 use Rattle.registers.specs.declared.Register.{Register}
 use Rattle.registers.specs.declared.Register.the-variants.{Word, Sum, Par, Irqv, Nothing}
 use Rattle.registers.specs.Registers.{registerOf, readAs, acknowledged, sideEffect, readFrom}
@@ -39,14 +40,14 @@ after-read P m a h f =
 
 -- ---- what it can change
 
-module _ (m : List ℕ) (i : ℕ) (not-vector : i ≢ IRQV) where
+module _ (m : List ℕ) (i : ℕ) (not-vector : i ≢ IRQV) (not-mask : i ≢ WAIT_MASK) where
   acknowledged-keeps : i ≢ voiceWord (getD m IRQV 0) CR → getD (acknowledged m) i 0 ≡ getD m i 0
   unfolding acknowledged
   acknowledged-keeps h =
       let cr = voiceWord (getD m IRQV 0) CR in
       let x = withBit IRQ 0 (getD m cr 0) in
-      either (λ (n : List ℕ). getD n i 0 ≡ getD m i 0) (ltb (getD m IRQV 0) 32) (set (set m cr x) IRQV 128) m
-      (λ _. getD-set-other (set m cr x) IRQV i 128 0 not-vector ∙ getD-set-other m cr i x 0 h)
+      either (λ (n : List ℕ). getD n i 0 ≡ getD m i 0) (ltb (getD m IRQV 0) 32) (withMask (set (set m cr x) IRQV 128)) m
+      (λ _. masked-word (set (set m cr x) IRQV 128) i not-mask ∙ getD-set-other (set m cr x) IRQV i 128 0 not-vector ∙ getD-set-other m cr i x 0 h)
       (λ _. refl)
 
   side-effect-keeps : (register : Register) → i ≢ PAR → i ≢ voiceWord (getD m IRQV 0) CR → getD (sideEffect m register) i 0 ≡ getD m i 0
@@ -57,13 +58,14 @@ module _ (m : List ℕ) (i : ℕ) (not-vector : i ≢ IRQV) where
   side-effect-keeps Irqv p h = acknowledged-keeps h
   side-effect-keeps Nothing p h = refl
 
--- Every word is as it was, but for the read latch, PAR, IRQV and the control register of the voice that the vector names.
-pub read-keeps : (m : List ℕ) (a i : ℕ) → i ≢ READ_LATCH → i ≢ PAR → i ≢ IRQV → i ≢ voiceWord (getD m IRQV 0) CR → getD (readRecord m a) i 0 ≡ getD m i 0
-read-keeps m a i l p q h = after-read (λ (n : List ℕ). getD n i 0 ≡ getD m i 0) m a refl
+-- Every word is as it was, but for the read latch, PAR, IRQV, the control register of the voice that the vector names, and the mask.
+pub read-keeps : (m : List ℕ) (a i : ℕ) → i ≢ READ_LATCH → i ≢ PAR → i ≢ IRQV → i ≢ WAIT_MASK → i ≢ voiceWord (getD m IRQV 0) CR
+    → getD (readRecord m a) i 0 ≡ getD m i 0
+read-keeps m a i l p q w h = after-read (λ (n : List ℕ). getD n i 0 ≡ getD m i 0) m a refl
     (λ _ _ _ register _.
     let x = readAs m register in
     let same : getD (set m READ_LATCH x) IRQV 0 ≡ getD m IRQV 0 = getD-set-other m READ_LATCH IRQV x 0 (λ (z : IRQV ≡ READ_LATCH). omega arith) in
-    side-effect-keeps (set m READ_LATCH x) i q register p (subst (λ (v : ℕ). i ≢ voiceWord v CR) (sym same) h) ∙ getD-set-other m READ_LATCH i x 0 l)
+    side-effect-keeps (set m READ_LATCH x) i q w register p (subst (λ (v : ℕ). i ≢ voiceWord v CR) (sym same) h) ∙ getD-set-other m READ_LATCH i x 0 l)
 
 -- the control register that the vector names is none of the words that voices share
 vector-below : (m : List ℕ) (i : ℕ) → Sound m → PAGE ≤ i → i < RECORD_WORDS → i ≢ voiceWord (getD m IRQV 0) CR
@@ -72,9 +74,9 @@ vector-below m i s h k e = cases (getD m IRQV 0) 32 ⊥
     (λ l. omega arith)
     (λ l. let q = eqb-true (getD m IRQV 0) 128 (rw (le-ltb (getD m IRQV 0) 32 l) at (s .vector)) in omega arith)
 
--- so of the shared words only the read latch, PAR and IRQV can change
-pub read-shared : (m : List ℕ) (a i : ℕ) → Sound m → PAGE ≤ i → i < RECORD_WORDS → i ≢ READ_LATCH → i ≢ PAR → i ≢ IRQV → getD (readRecord m a) i 0 ≡ getD m i 0
-read-shared m a i s h k l p q = read-keeps m a i l p q (vector-below m i s h k)
+-- so of the shared words only the read latch, PAR, IRQV and the mask can change
+pub read-shared : (m : List ℕ) (a i : ℕ) → Sound m → PAGE ≤ i → i < WAIT_MASK → i ≢ READ_LATCH → i ≢ PAR → i ≢ IRQV → getD (readRecord m a) i 0 ≡ getD m i 0
+read-shared m a i s h k l p q = read-keeps m a i l p q (λ e. omega arith) (vector-below m i s h (omega arith))
 
 module _ (m : List ℕ) (long : length m ≡ RECORD_WORDS) (v n : ℕ) (hv : v < 32) (other : n ≢ IRQ) where
   cr-bit : (j : ℕ) → j < RECORD_WORDS → Dec (voiceWord v CR ≡ j) → bitOf n (getD (set m j (withBit IRQ 0 (getD m j 0))) (voiceWord v CR) 0) ≡ bitOf n (getD m (voiceWord v CR) 0)
@@ -86,10 +88,10 @@ module _ (m : List ℕ) (long : length m ≡ RECORD_WORDS) (v n : ℕ) (hv : v <
   acknowledged-bit =
       let cr = voiceWord (getD m IRQV 0) CR in
       let x = withBit IRQ 0 (getD m cr 0) in
-      either (λ (l : List ℕ). bitOf n (getD l (voiceWord v CR) 0) ≡ bitOf n (getD m (voiceWord v CR) 0)) (ltb (getD m IRQV 0) 32) (set (set m cr x) IRQV 128) m
+      either (λ (l : List ℕ). bitOf n (getD l (voiceWord v CR) 0) ≡ bitOf n (getD m (voiceWord v CR) 0)) (ltb (getD m IRQV 0) 32) (withMask (set (set m cr x) IRQV 128)) m
       (λ t.
       let h = ltb-true (getD m IRQV 0) 32 t in
-      ap (bitOf n) (getD-set-other (set m cr x) IRQV (voiceWord v CR) 128 0 (λ z. omega arith)) ∙ cr-bit cr (omega arith) (ℕ-discrete (voiceWord v CR) cr))
+      ap (bitOf n) (masked-word (set (set m cr x) IRQV 128) (voiceWord v CR) (λ z. omega arith) ∙ getD-set-other (set m cr x) IRQV (voiceWord v CR) 128 0 (λ z. omega arith)) ∙ cr-bit cr (omega arith) (ℕ-discrete (voiceWord v CR) cr))
       (λ _. refl)
 
   side-effect-bit : (register : Register) → bitOf n (getD (sideEffect m register) (voiceWord v CR) 0) ≡ bitOf n (getD m (voiceWord v CR) 0)

@@ -14,8 +14,8 @@ use borrow.Author.Tests.{ltb-true}
 use Rattle.numbers.proofs.Tests.{either, all-at}
 use Rattle.control.specs.Control.{withBit, IRQ}
 use Rattle.control.proofs.Bits.{put-small}
-use Rattle.machine.specs.Words.{CR, PAGE, IRQV, PAR, WRITE_LATCH, READ_LATCH, voiceWord, voiceBits, sharedBits, bitsOf, cut, isVector, RECORD_WORDS}
-use Rattle.machine.proofs.Valid.{Sound, word-le, bits-voice, cut-again, sound-set}
+use Rattle.machine.specs.Words.{CR, PAGE, IRQV, PAR, WRITE_LATCH, READ_LATCH, voiceWord, voiceBits, sharedBits, bitsOf, cut, isVector, WAIT_MASK, RECORD_WORDS}
+use Rattle.machine.proofs.Valid.{Sound, in-range, word-le, bits-voice, cut-again, range-set, sound-masked, sound-set}
 use Rattle.registers.specs.declared.Register.{Register}
 use Rattle.registers.specs.declared.Register.the-variants.{Word, Sum, Par, Irqv, Nothing}
 use Rattle.registers.specs.Registers.{registerOf, withByte, stored, writtenTo, readAs, acknowledged, sideEffect, readFrom}
@@ -34,7 +34,7 @@ unfolding bitsOf sharedBits
 bits-lt i h = ltb→lt (bitsOf i) (2 ^ 32) (all-at (λ j. ltb (bitsOf j) (2 ^ 32)) RECORD_WORDS tt i h)
 
 pub word-lt : (m : List ℕ) → Sound m → (i : ℕ) → i < RECORD_WORDS → getD m i 0 < 2 ^ 32
-word-lt m s i h = omega (arith, word-le m s i h, bits-lt i h)
+word-lt m s i h = omega (arith, word-le m (in-range s) i h, bits-lt i h)
 
 pub latch-lt : {m : List ℕ} → Sound m → getD m WRITE_LATCH 0 < 2 ^ 32
 latch-lt {m} s = word-lt m s WRITE_LATCH (omega arith)
@@ -44,25 +44,25 @@ cr-bits : (v : ℕ) → v < 32 → bitsOf (voiceWord v CR) ≡ 2 ^ 16 - 1
 cr-bits v h = bits-voice v 0 h (omega arith)
 
 pub cr-lt : (m : List ℕ) → Sound m → (v : ℕ) → v < 32 → getD m (voiceWord v CR) 0 < 65536
-cr-lt m s v h = omega (arith, word-le m s (voiceWord v CR) (omega arith), cr-bits v h)
+cr-lt m s v h = omega (arith, word-le m (in-range s) (voiceWord v CR) (omega arith), cr-bits v h)
 
 -- ---- the latches, which may hold any 32 bits, and the pot result
 
--- a store of such a number, in a word that is not the vector
-low-sound : {m : List ℕ} (i n x : ℕ) → Sound m → i < RECORD_WORDS → i ≢ IRQV → bitsOf i ≡ 2 ^ n - 1 → x < 2 ^ n → Sound (set m i x)
-low-sound i n x s h v e l = sound-set i x s h (cut-low i n x e l) (λ z. absurd (v z))
+-- a store of such a number, in a shared word that is not the vector
+low-sound : {m : List ℕ} (i n x : ℕ) → Sound m → PAGE ≤ i → i < WAIT_MASK → i ≢ IRQV → bitsOf i ≡ 2 ^ n - 1 → x < 2 ^ n → Sound (set m i x)
+low-sound i n x s g h v e l = sound-set i x s g h (cut-low i n x e l) (λ z. absurd (v z))
 
 pub write-latch : {m : List ℕ} (x : ℕ) → Sound m → x < 2 ^ 32 → Sound (set m WRITE_LATCH x)
 unfolding bitsOf sharedBits
-write-latch x s h = low-sound WRITE_LATCH 32 x s (omega arith) (λ z. omega arith) refl h
+write-latch x s h = low-sound WRITE_LATCH 32 x s (omega arith) (omega arith) (λ z. omega arith) refl h
 
 read-latch : {m : List ℕ} (x : ℕ) → Sound m → x < 2 ^ 32 → Sound (set m READ_LATCH x)
 unfolding bitsOf sharedBits
-read-latch x s h = low-sound READ_LATCH 32 x s (omega arith) (λ z. omega arith) refl h
+read-latch x s h = low-sound READ_LATCH 32 x s (omega arith) (omega arith) (λ z. omega arith) refl h
 
 pub pot-sound : {m : List ℕ} (p : ℕ) → Sound m → p ≤ 1023 → Sound (set m PAR p)
 unfolding bitsOf sharedBits
-pot-sound p s h = low-sound PAR 10 p s (omega arith) (λ z. omega arith) refl (omega arith)
+pot-sound p s h = low-sound PAR 10 p s (omega arith) (omega arith) (λ z. omega arith) refl (omega arith)
 
 -- ---- writing
 
@@ -74,13 +74,10 @@ byte-lt (suc (suc zero)) b x h d e = omega arith
 byte-lt (suc (suc (suc zero))) b x h d e = omega arith
 byte-lt (suc (suc (suc (suc k)))) b x h d e = absurd (omega arith)
 
-store-sound : (m : List ℕ) (i x : ℕ) → Sound m → (i < RECORD_WORDS) × (i ≡ IRQV → ⊥) → Sound (set m i (cut i x))
-store-sound m i x s h = sound-set i (cut i x) s (h .0) (cut-again i x) (λ e. absurd (h .1 e))
-
 stored-sound : (m : List ℕ) (register : Register) (x : ℕ) → Sound m → Inside register → Sound (stored m register x)
 unfolding stored
-stored-sound m (Word i) x s h = store-sound m i x s h
-stored-sound m (Sum i) x s h = store-sound m i x s h
+stored-sound m (Word i) x s h = sound-masked (range-set i (cut i x) (in-range s) (omega (arith, h .0)) (cut-again i x) (λ e. absurd (h .1 e)))
+stored-sound m (Sum i) x s h = sound-set i (cut i x) s (omega (arith, h .0)) (h .1) (cut-again i x) (λ e. absurd (let z : ⊥ = omega (arith, h .0) in z))
 stored-sound m Par x s h = s
 stored-sound m Irqv x s h = s
 stored-sound m Nothing x s h = s
@@ -97,7 +94,7 @@ write-sound m r k b s h d e =
 
 value-lt : (m : List ℕ) (register : Register) → Sound m → Inside register → readAs m register < 2 ^ 32
 unfolding readAs
-value-lt m (Word i) s h = word-lt m s i (h .0)
+value-lt m (Word i) s h = word-lt m s i (omega (arith, h .0))
 value-lt m (Sum i) s h = omega arith
 value-lt m Par s h = word-lt m s PAR (omega arith)
 value-lt m Irqv s h = word-lt m s IRQV (omega arith)
@@ -116,9 +113,10 @@ acknowledged-sound m s =
     (λ t.
     let h = ltb-true v 32 t in
     let x = withBit IRQ 0 (getD m cr 0) in
-    sound-set IRQV 128
-    (low-sound cr 16 x s (omega arith) (λ z. omega arith) (cr-bits v h) (put-small IRQ 0 (getD m cr 0) (omega arith) (omega arith) (cr-lt m s v h)))
-    (omega arith) refl (λ _. refl))
+    sound-masked
+    (range-set IRQV 128
+    (range-set cr x (in-range s) (omega arith) (cut-low cr 16 x (cr-bits v h) (put-small IRQ 0 (getD m cr 0) (omega arith) (omega arith) (cr-lt m s v h))) (λ z. absurd (let y : ⊥ = omega arith in y)))
+    (omega arith) refl (λ _. refl)))
     (λ _. s)
 
 side-effect-sound : (m : List ℕ) (register : Register) → Sound m → Sound (sideEffect m register)

@@ -22,8 +22,9 @@ use borrow.Author.Tests.{eqb-true, ne-eqb}
 use Rattle.numbers.proofs.Tests.{either}
 use Rattle.answer.specs.Answer.{isDone}
 use Rattle.answer.specs.declared.Answer.the-variants.{Address}
-use Rattle.machine.specs.Words.{PAGE, IRQV, WRITE_LATCH, SUMS, sharedBits, bitsOf, cut}
+use Rattle.machine.specs.Words.{PAGE, IRQV, WRITE_LATCH, SUMS, WAIT_MASK, sharedBits, bitsOf, cut, withMask}
 use Rattle.machine.proofs.Valid.{Sound}
+use Rattle.machine.proofs.Mask.{masked-word, masked-set, masked-after}
 use Rattle.registers.specs.declared.Register.{Register}
 use Rattle.registers.specs.declared.Register.the-variants.{Word, Sum, Par, Irqv, Nothing}
 use Rattle.registers.specs.Registers.{registerOf, byteOf, withByte, stored, writtenTo}
@@ -94,9 +95,9 @@ pub byte-written : {m : List ℕ} (r k b : ℕ) → Sound m → r < 16 → k < 3
 unfolding writtenTo
 byte-written {m} r k b s hr hk = write-byte m r k b s hr (omega arith) ∙ rw (ne-eqb k 3 (λ e. omega arith))
 
--- byte 3 stores the latch, and clears it
+-- byte 3 stores the latch, with what that means for the mask, and clears it
 pub last-written : {m : List ℕ} (r b i : ℕ) → Sound m → r < 16 → registerOf (getD m PAGE 0) r ≡ Word i
-    → writeRecord m (4 * r + 3) b ≡ set (set m i (cut i (withByte 3 b (getD m WRITE_LATCH 0)))) WRITE_LATCH 0
+    → writeRecord m (4 * r + 3) b ≡ set (withMask (set m i (cut i (withByte 3 b (getD m WRITE_LATCH 0))))) WRITE_LATCH 0
 unfolding writtenTo stored
 last-written {m} r b i s hr e = write-byte m r 3 b s hr (omega arith) ∙ rw e
 
@@ -106,7 +107,9 @@ unfolding cut bitsOf sharedBits withByte
 page-written {m} b s h =
     let x = withByte 3 b (getD m WRITE_LATCH 0) in
     let e : cut PAGE x ≡ b = and-mask x 7 ∙ omega arith in
-    last-written 15 b PAGE s (omega arith) (page-named (getD m PAGE 0)) ∙ ap (λ (y : ℕ). set (set m PAGE y) WRITE_LATCH 0) e
+    last-written 15 b PAGE s (omega arith) (page-named (getD m PAGE 0))
+    ∙ ap (λ (y : ℕ). set (withMask (set m PAGE y)) WRITE_LATCH 0) e
+    ∙ ap (λ (n : List ℕ). set n WRITE_LATCH 0) (masked-set m PAGE b (s .mask) (λ u l z. omega arith) (λ z. omega arith))
 
 pub page-after : {m : List ℕ} (b : ℕ) → Sound m → b < 128 → getD (writeRecord m (4 * 15 + 3) b) PAGE 0 ≡ b
 page-after {m} b s h =
@@ -119,9 +122,9 @@ stored-keeps : (m : List ℕ) (register : Register) (x i : ℕ) → ((j : ℕ) �
 unfolding stored
 stored-keeps m (Word j) x i f l h = at (ℕ-discrete i j)
   where
-    at : Dec (i ≡ j) → getD (set m j (cut j x)) i 0 ≡ getD m i 0
+    at : Dec (i ≡ j) → getD (withMask (set m j (cut j x))) i 0 ≡ getD m i 0
     at (yes e) = absurd (h (ap Word (sym e)))
-    at (no e) = getD-set-other m j i (cut j x) 0 e
+    at (no e) = masked-word (set m j (cut j x)) i (λ z. omega arith) ∙ getD-set-other m j i (cut j x) 0 e
 stored-keeps m (Sum j) x i f l h = getD-set-other m j i (cut j x) 0 (λ e. let k = f j refl in omega arith)
 stored-keeps m Par x i f l h = refl
 stored-keeps m Irqv x i f l h = refl
@@ -158,8 +161,12 @@ latch-covered m y register x = at register
     under i z (yes e) = subst (λ (j : ℕ). set (set (set m WRITE_LATCH y) j z) WRITE_LATCH 0 ≡ set (set m j z) WRITE_LATCH 0) e (simp set-set)
     under i z (no e) = ap (λ (l : List ℕ). set l WRITE_LATCH 0) (set-comm m WRITE_LATCH i y z e) ∙ set-set (set m i z) WRITE_LATCH y 0
 
+    -- and not under the mask either
+    told : (n : List ℕ) → set (withMask n) WRITE_LATCH 0 ≡ withMask (set n WRITE_LATCH 0)
+    told n = sym (masked-after n WRITE_LATCH 0 (omega arith) (λ z. omega arith))
+
     at : (g : Register) → set (stored (set m WRITE_LATCH y) g x) WRITE_LATCH 0 ≡ set (stored m g x) WRITE_LATCH 0
-    at (Word i) = under i (cut i x) (ℕ-discrete WRITE_LATCH i)
+    at (Word i) = told (set (set m WRITE_LATCH y) i (cut i x)) ∙ ap withMask (under i (cut i x) (ℕ-discrete WRITE_LATCH i)) ∙ sym (told (set m i (cut i x)))
     at (Sum i) = under i (cut i x) (ℕ-discrete WRITE_LATCH i)
     at Par = set-set m WRITE_LATCH y 0
     at Irqv = set-set m WRITE_LATCH y 0

@@ -7,7 +7,7 @@ use mathlib.Core.List.{List}
 use lib.Dec.{eqb, ltb}
 use lib.ListN.{getD, set}
 use Rattle.control.specs.Control.{withBit, IRQ}
-use Rattle.machine.specs.Words.{VOICES, CR, START, O4N1, PAGE, IRQV, PAR, ACTV, MODE, W_ST, WRITE_LATCH, READ_LATCH, SUMS, NO_INTERRUPT, POT_LIMIT, voiceWord, cut}
+use Rattle.machine.specs.Words.{VOICES, CR, START, O4N1, PAGE, IRQV, PAR, ACTV, MODE, W_ST, WRITE_LATCH, READ_LATCH, SUMS, NO_INTERRUPT, POT_LIMIT, voiceWord, cut, withMask}
 use Rattle.registers.specs.declared.Register.{Register}
 use Rattle.registers.specs.declared.Register.the-variants.{Word, Sum, Par, Irqv, Nothing}
 
@@ -50,9 +50,9 @@ withByte k b x = x / 2 ^ (32 - 8 * k) * 2 ^ (32 - 8 * k) + b * 2 ^ (24 - 8 * k) 
 
 -- ---- writing
 
--- x, cut to the bits kept, stored in a register that can be written
+-- x, cut to the bits kept, stored in a register that can be written; the word may be a control register, and the mask follows its flag
 unfoldable pub stored : List ℕ → Register → ℕ → List ℕ
-stored m (Word i) x = set m i (cut i x)
+stored m (Word i) x = withMask (set m i (cut i x))
 stored m (Sum i) x = set m i (cut i x)
 stored m Par x = m
 stored m Irqv x = m
@@ -74,11 +74,11 @@ readAs m Par = getD m PAR 0
 readAs m Irqv = getD m IRQV 0
 readAs m Nothing = 0
 
--- The vector is read: a voice that it names loses its interrupt flag, and the vector is empty again.
+-- The vector is read: a voice that it names loses its interrupt flag, the vector is empty again, and the mask follows.
 unfoldable pub acknowledged : List ℕ → List ℕ
 acknowledged m =
     let cr = voiceWord (getD m IRQV 0) CR in
-    cond (ltb (getD m IRQV 0) VOICES) (set (set m cr (withBit IRQ 0 (getD m cr 0))) IRQV NO_INTERRUPT) m
+    cond (ltb (getD m IRQV 0) VOICES) (withMask (set (set m cr (withBit IRQ 0 (getD m cr 0))) IRQV NO_INTERRUPT)) m
 
 -- what reading a register does besides
 unfoldable pub sideEffect : List ℕ → Register → List ℕ

@@ -4,8 +4,8 @@
 ghost use mathlib.Core.Path.{_≡_};
 ghost use mathlib.Core.Bool.{true};
 ghost use Prim.Native.Nat.{_<_};
-ghost use lib.ListN.{length, getD, set};
-ghost use Rattle.machine.specs.Words.{RECORD_WORDS, READ_LATCH, valid};
+ghost use lib.ListN.{getD, set};
+ghost use Rattle.machine.specs.Words.{READ_LATCH, WAIT_MASK, cut, withMask, valid};
 ghost use Rattle.registers.specs.Registers.{registerOf, byteOf, withByte, stored, writtenTo, readAs, sideEffect, readFrom};
 ghost use Rattle.registers.specs.Registers.{acknowledged};
 ghost use Rattle.registers.specs.Inside.{Inside};
@@ -91,7 +91,7 @@ fn refusal(m: &[u32], address: u32) -> Answer
 
 // Byte k of register r is written.
 fn write_byte(m: &mut [u32], r: u32, k: u32, b: u8)
-    requires { ⌜ length (now m) ≡ RECORD_WORDS ⌝ }
+    requires { ⌜ valid (now m) ≡ true ⌝ }
     requires { ⌜ (r < 16) × (k < 4) ⌝ }
     ensures { λ _. ⌜ now (m .exit) ≡ writtenTo (now (m .entry)) r k b ⌝ }
 {
@@ -159,19 +159,34 @@ fn decode(page: u32, r: u32) -> Register
 
 // x, cut to the bits kept, in a register that can be written. The others take nothing: their writes end in the latch.
 fn store(m: &mut [u32], register: Register, x: u32)
-    requires { ⌜ (length (now m) ≡ RECORD_WORDS) × Inside register ⌝ }
+    requires { ⌜ valid (now m) ≡ true ⌝ }
+    requires { ⌜ Inside register ⌝ }
     ensures { λ _. ⌜ now (m .exit) ≡ stored (now (m .entry)) register x ⌝ }
 {
     match register {
-        Register::Word(i) => {
-            m[i] = x & machine::bits_of(i);
-        }
+        Register::Word(i) => store_word(m, i, x),
         Register::Sum(i) => {
             m[i] = x & machine::bits_of(i);
         }
         Register::Par => {}
         Register::Irqv => {}
         Register::Nothing => {}
+    }
+}
+
+// x, cut to the bits kept, in word i. Where that is a control register, its flag goes into the mask too.
+fn store_word(m: &mut [u32], i: usize, x: u32)
+    requires { ⌜ valid (now m) ≡ true ⌝ }
+    requires { ⌜ i < WAIT_MASK ⌝ }
+    ensures { λ _. ⌜ now (m .exit) ≡ withMask (set (now (m .entry)) i (cut i x)) ⌝ }
+{
+    let y = x & machine::bits_of(i);
+    m[i] = y;
+    if i < machine::PAGE {
+        if i % machine::VOICE_WORDS == machine::CR {
+            let flag = control::bit(control::IRQ, y);
+            machine::mark(m, i / machine::VOICE_WORDS, flag);
+        }
     }
 }
 
@@ -202,7 +217,7 @@ fn load(m: &mut [u32], register: Register)
     }
 }
 
-// The vector was read: the voice that it names loses its interrupt flag, and the vector is free for the next.
+// The vector was read: the voice that it names loses its interrupt flag, in the mask too, and the vector is free for the next.
 fn acknowledge(m: &mut [u32])
     requires { ⌜ valid (now m) ≡ true ⌝ }
     ensures { λ _. ⌜ now (m .exit) ≡ acknowledged (now (m .entry)) ⌝ }
@@ -213,6 +228,7 @@ fn acknowledge(m: &mut [u32])
         let cr = m[i];
         m[i] = control::with_bit(control::IRQ, 0, cr);
         m[machine::IRQV] = machine::NO_INTERRUPT;
+        machine::mark(m, voice as usize, 0);
     }
 }
 

@@ -18,7 +18,7 @@ fine : (c : tie.Start) → Sound (c .args .m .now)
 fine c = sound (c .args .m .now) (c .pre .0)
 
 within : (c : tie.After-register) → c .register .given .0 .0 < RECORD_WORDS
-within c = subst Inside (c .register .given .1) (c .before .before .before .pre .1) .0
+within c = let h = subst Inside (c .register .given .1) (c .before .before .before .pre .1) .0 in omega arith
 
 mul-m : tie.Need-mul-m
 mul-m c = omega (arith, within (c .before))

@@ -4,43 +4,38 @@ use mathlib.Core.Path.{subst}
 use Prim.Native.Nat.{_<_}
 use native.Mathlib.Omega.{arith}
 use borrow.Author.Needs.{needs}
-use Rattle.machine.specs.Words.{cut, RECORD_WORDS}
+use Rattle.machine.specs.Words.{cut, WAIT_MASK}
+use Rattle.machine.proofs.Valid.{sound}
 use Rattle.registers.specs.Registers.{stored}
 use Rattle.registers.specs.Inside.{Inside}
 use Rattle.registers.proofs.store.Statement.{statement}
 use Rattle.registers.proofs.store.Tie as tie
 
-within : (c : tie.After-register) → c .register .given .0 .0 < RECORD_WORDS
-within c = subst Inside (c .register .given .1) (c .before .before .before .pre .1) .0
+word-within : (c : tie.After-register) → c .register .given .0 .0 < WAIT_MASK
+word-within c = subst Inside (c .register .given .1) (c .before .before .before .pre .1) .0
 
-within-2 : (c : tie.After-register2) → c .register2 .given .0 .0 < RECORD_WORDS
-within-2 c = subst Inside (c .register2 .given .1) (c .before .before .before .pre .1) .0
+sum-within : (c : tie.After-register2) → c .register2 .given .0 .0 < WAIT_MASK
+sum-within c = subst Inside (c .register2 .given .1) (c .before .before .before .pre .1) .1
+
+store-word-requires : tie.Need-store-word-requires
+store-word-requires c κs = (c .before .before .before .before .before .pre .0, word-within (c .before .before))
 
 bits-of-requires : tie.Need-bits-of-requires
-bits-of-requires c κs = within (c .before)
+bits-of-requires c κs = omega (arith, sum-within (c .before))
 
 mul-m : tie.Need-mul-m
-mul-m c = omega (arith, within (c .before .before))
+mul-m c = omega (arith, sum-within (c .before .before))
 
 slice-write-m : tie.Need-slice-write-m
-slice-write-m c = omega (arith, within (c .before .before))
-
-bits-of-requires-2 : tie.Need-bits-of-requires-2
-bits-of-requires-2 c κs = within-2 (c .before)
-
-mul-m-2 : tie.Need-mul-m-2
-mul-m-2 c = omega (arith, within-2 (c .before .before))
-
-slice-write-m-2 : tie.Need-slice-write-m-2
-slice-write-m-2 c = omega (arith, within-2 (c .before .before))
+slice-write-m c = omega (arith, sum-within (c .before .before), sound _ (c .before .before .before .before .before .pre .0) .size)
 
 returns : tie.Need-returns
-unfolding stored cut
-returns c = rw (c .before .before .register .given .1, c .bits-of .ensures)
+unfolding stored
+returns c = rw (c .before .before .before .before .before .register .given .1) (c .before .before .store-word .ensures)
 
 returns-2 : tie.Need-returns-2
 unfolding stored cut
-returns-2 c = rw (c .before .before .register2 .given .1, c .bits-of2 .ensures)
+returns-2 c = rw (c .before .before .register2 .given .1, c .bits-of .ensures)
 
 returns-3 : tie.Need-returns-3
 unfolding stored
@@ -59,13 +54,11 @@ store-spec =
     tie.close
     (tie.spec
     (λ c. search needs)
+    store-word-requires
+    (λ c. search needs)
     bits-of-requires
     mul-m
     slice-write-m
-    (λ c. search needs)
-    bits-of-requires-2
-    mul-m-2
-    slice-write-m-2
     (λ c. search needs)
     (λ c. search needs)
     (λ c. search needs)

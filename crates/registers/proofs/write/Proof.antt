@@ -5,6 +5,7 @@ use borrow.Author.Needs.{needs}
 use Rattle.answer.specs.Answer.{isDone}
 use Rattle.answer.specs.declared.Answer.the-variants.{Done}
 use Rattle.answer.proofs.Refusals.{is-refusal}
+use Rattle.machine.proofs.Valid.{is-valid}
 use Rattle.registers.specs.Access.{byteAnswer}
 use Rattle.registers.proofs.Laws.{byte-done, writes-refused, writes-done}
 use Rattle.registers.proofs.write.Statement.{statement}
@@ -21,7 +22,7 @@ returns c =
     writes-refused (a .m .now) (a .address) (a .value) (r .result) (sym (r .ensures)) (is-refusal (r .result) (c .match .keys2))
 
 write-byte-requires : tie.Need-write-byte-requires
-write-byte-requires c κs = let p = byte-done _ _ (ap isDone (fine (c .before))) in (p .0 .size, omega arith)
+write-byte-requires c κs = let p = byte-done _ _ (ap isDone (fine (c .before))) in (is-valid _ (p .0), omega arith)
 
 returns-2 : tie.Need-returns-2
 returns-2 c =
