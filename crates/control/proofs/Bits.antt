@@ -1,6 +1,7 @@
 -- Bits of a word: a word by its parts above, at and below a bit; what a put bit leaves, in its range too; reading bit m after bit n was put.
 -- Assumes nothing.
 use mathlib.Core.Path.{_≡_, sym, ap, subst, _∙_}
+use mathlib.Core.Bool.{true, false}
 use mathlib.Core.Logic.{_≢_}
 use Prim.Native.Nat.{ℕ, zero, suc, _+_, _-_, _*_, _/_, _%_, _^_, _<_, _≤_}
 use native.Mathlib.Nat.{mod-lt, mod-eq-of-lt, mul-le-mul-right, pow-suc, mul-add-mod-self-right, mul-add-div-right}
@@ -8,6 +9,7 @@ use native.Mathlib.Omega.{arith}
 use lib.Arith.{digits-div, digits-lt}
 use lib.Pow.{pow-pos, pow-mono, pow-add, shr-lt, shr-shr, split}
 use lib.Dec.{eqb}
+use borrow.Author.Tests.{eqb-true, eqb-false}
 use Rattle.numbers.proofs.Tests.{cases}
 use Rattle.control.specs.Control.{bitOf, flagOf, withBit}
 
@@ -44,6 +46,11 @@ pub bit-within : (n w : ℕ) → bitOf n w * 2 ^ n ≤ w
 bit-within n w =
     let e = parts n w in
     omega arith
+
+-- a bit put to what it is changes nothing
+pub put-same : (n b w : ℕ) → bitOf n w ≡ b → withBit n b w ≡ w
+unfolding withBit
+put-same n b w e = omega (arith, bit-within n w, ap (λ (x : ℕ). x * 2 ^ n) e)
 
 -- and a word of d bits stays one
 pub put-below : (d n b w : ℕ) → n < d → b ≤ 1 → w < 2 ^ d → withBit n b w < 2 ^ d
@@ -95,6 +102,14 @@ read-other m n b w h d = cases m n (bitOf m (withBit n b w) ≡ bitOf m w)
     (λ l. let e : m ≡ n + suc (m - suc n) = omega arith in subst (λ (k : ℕ). withBit n b w / 2 ^ k % 2 ≡ w / 2 ^ k % 2) (sym e) (ap (λ (x : ℕ). x % 2) (above n (m - suc n) b w h)))
 
 -- ---- the same of flags
+
+pub flag-bit : (n w : ℕ) → flagOf n w ≡ true → bitOf n w ≡ 1
+unfolding flagOf
+flag-bit n w h = eqb-true (bitOf n w) 1 h
+
+pub no-flag-bit : (n w : ℕ) → flagOf n w ≡ false → bitOf n w ≡ 0
+unfolding flagOf
+no-flag-bit n w h = let d = eqb-false (bitOf n w) 1 h in omega (arith, bit-le n w)
 
 pub flag-put : (n b w : ℕ) → b ≤ 1 → flagOf n (withBit n b w) ≡ eqb b 1
 unfolding flagOf

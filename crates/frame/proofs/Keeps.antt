@@ -9,7 +9,7 @@ use native.Mathlib.Nat.{mod-eq-of-lt, mod-lt}
 use native.Mathlib.Omega.{arith}
 use borrow.Author.Tests.{lt-ltb, ltb-true}
 use lib.Bits.{bitAnd, and-mask, and-le-r}
-use lib.Dec.{T, eqb, ltb, eqb→eq, lit<}
+use lib.Dec.{T, eqb, ltb, eqb→eq, lit<, lit≤}
 use lib.IntN.{ℤ}
 use lib.ListN.{length, getD}
 use Rattle.numbers.specs.Numbers.{word}
@@ -19,7 +19,7 @@ use Rattle.channel.specs.Channel.{mixed}
 use Rattle.channel.proofs.Laws.{mixed-is}
 use Rattle.machine.specs.Words.{voiceBits, sharedBits, bitsOf, cut, isVector, ACTV, IRQV, SLOW, SUMS}
 use Rattle.machine.specs.Voices.{voiceAt}
-use Rattle.machine.proofs.Valid.{Sound, sound-set, sound-put, sound-voice, word-le}
+use Rattle.machine.proofs.Valid.{Sound, InRange, in-range, range-put, range-voice, sound-masked, sound-set, word-le}
 use Rattle.voice.specs.Turn.{turnOf}
 use Rattle.voice.specs.Ranges.{Ranges}
 use Rattle.voice.specs.Voice.{Voice, voiceOf, wordsOf}
@@ -168,8 +168,8 @@ bits-sum : (c : ℕ) → c < 12 → bitsOf (SUMS + c) ≡ 8388607
 unfolding sum-bits
 bits-sum c h = eqb→eq (bitsOf (SUMS + c)) 8388607 (all-at sum-bits 12 all-sum-bits c h)
 
--- a sum of a valid record has 23 bits
-pub sum-small : (m : List ℕ) → Sound m → (c : ℕ) → c < 12 → getD m (SUMS + c) 0 < 8388608
+-- a sum has 23 bits
+pub sum-small : (m : List ℕ) → InRange m → (c : ℕ) → c < 12 → getD m (SUMS + c) 0 < 8388608
 sum-small m s c h = omega (arith, subst (λ (b : ℕ). getD m (SUMS + c) 0 ≤ b) (bits-sum c h) (word-le m s (SUMS + c) (omega arith)))
 
 mixed-small : (a b : ℕ) → mixed a b < 8388608
@@ -178,7 +178,7 @@ mixed-small a b = rw (mixed-is a b) (mod-lt (a + b) (lit< tt))
 pub sound-added-to : {m : List ℕ} (c : ℕ) (z : ℤ) → Sound m → c < 12 → Sound (addedTo m (SUMS + c) z)
 unfolding addedTo cut
 sound-added-to {m} c z s h =
-    sound-set (SUMS + c) _ s (omega arith) (rw (bits-sum c h) (small-cut 23 _ (mixed-small (getD m (SUMS + c) 0) (word 23 z)))) (λ e. absurd (let y : ⊥ = omega arith in y))
+    sound-set (SUMS + c) _ s (omega arith) (omega arith) (rw (bits-sum c h) (small-cut 23 _ (mixed-small (getD m (SUMS + c) 0) (word 23 z)))) (λ e. absurd (let y : ⊥ = omega arith in y))
 
 pub sound-added : {m : List ℕ} (c : ℕ) (left right : ℤ) → Sound m → Sound (added m c left right)
 unfolding added
@@ -192,7 +192,7 @@ sound-added {m} c left right s = either Sound (ltb c 6) _ _
 pub sound-signalled : {m : List ℕ} (v CR : ℕ) → Sound m → v < 32 → Sound (signalled m v CR)
 unfolding signalled cut bitsOf sharedBits
 sound-signalled {m} v CR s h = either Sound (flagOf IRQ CR && eqb (getD m IRQV 0) 128) _ _
-    (λ t. sound-set IRQV v s (lit< tt) (small-cut 8 v (omega arith)) (λ e. is-vector v h))
+    (λ t. sound-set IRQV v s (lit≤ tt) (lit< tt) (small-cut 8 v (omega arith)) (λ e. is-vector v h))
     (λ t. s)
 
 -- ---- the turn, and the turns
@@ -203,7 +203,9 @@ sound-turn memory v {m} s h =
     let t = turnOf memory (getD m SLOW 0) (voiceOf (voiceAt m v)) in
     sound-signalled v _
     (sound-added _ _ _
-    (sound-put v (wordsOf (t .voice)) s h (words-length (t .voice)) (turn-cut memory (getD m SLOW 0) (voiceAt m v) (λ j k. sound-voice m s v j h k))))
+    (sound-masked
+    (range-put v (wordsOf (t .voice)) (in-range s) h (words-length (t .voice))
+    (turn-cut memory (getD m SLOW 0) (voiceAt m v) (λ j k. range-voice m (in-range s) v j h k)))))
     h
 
 pub sound-turns : (memory : List ℕ) (n : ℕ) {m : List ℕ} → Sound m → n ≤ 32 → Sound (turns memory n m)
@@ -215,7 +217,7 @@ sound-turns memory (suc n) {m} s h = sound-turn memory n (sound-turns memory n s
 
 pub active-le : (m : List ℕ) → Sound m → getD m ACTV 0 ≤ 31
 unfolding bitsOf sharedBits
-active-le m s = word-le m s ACTV (lit< tt)
+active-le m s = word-le m (in-range s) ACTV (lit< tt)
 
 pub sound-played : (memory : List ℕ) {m : List ℕ} → Sound m → Sound (played memory m)
 unfolding played

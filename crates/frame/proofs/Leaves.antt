@@ -25,10 +25,11 @@ use Rattle.numbers.proofs.Tests.{either, split, cases}
 use Rattle.control.specs.Control.{flagOf, channelOf, IRQ}
 use Rattle.channel.specs.Channel.{mixed, putOut}
 use Rattle.channel.proofs.Laws.{mixed-is}
-use Rattle.machine.specs.Words.{PAGE, IRQV, ACTV, SLOW, SUMS, NO_INTERRUPT, bitsOf, sharedBits, cut, RECORD_WORDS}
+use Rattle.machine.specs.Words.{PAGE, IRQV, ACTV, SLOW, SUMS, WAIT_MASK, NO_INTERRUPT, bitsOf, sharedBits, cut, withMask, RECORD_WORDS}
 use Rattle.machine.specs.Voices.{voiceAt, putVoice}
 use Rattle.machine.proofs.Parts.{voice-set-shared, voice-same, put-length, put-same, put-other, put-out}
-use Rattle.machine.proofs.Valid.{Sound, sound-set, sound-put, sound-voice}
+use Rattle.machine.proofs.Mask.{same-flags, masked-length, masked-word, masked-voice}
+use Rattle.machine.proofs.Valid.{Sound, in-range, range-put, range-voice, sound-masked, sound-set}
 use Rattle.voice.specs.Turn.{turnOf}
 use Rattle.voice.specs.Voice.{voiceOf, wordsOf}
 use Rattle.numbers.specs.Sum.{sum}
@@ -106,7 +107,7 @@ module _ (m : List ℕ) (channel : ℕ) (left right : ℤ) where
   module _ (s : Sound m) (i : ℕ) (h : i < 12) where
     -- a sum that gets nothing is as it was, since it has 23 bits
     nothing-added : getD m (SUMS + i) 0 ≡ (getD m (SUMS + i) 0 + 0) % 8388608
-    nothing-added = omega (arith, sum-small m s i h)
+    nothing-added = omega (arith, sum-small m (in-range s) i h)
 
     both-added : channel < 6 → getD (addedTo (addedTo m (SUMS + 2 * channel) left) (SUMS + 2 * channel + 1) right) (SUMS + i) 0
         ≡ (getD m (SUMS + i) 0 + portion channel left right i) % 8388608
@@ -143,9 +144,9 @@ module _ (m : List ℕ) (channel : ℕ) (left right : ℤ) where
 -- ---- the turn of voice v
 
 module _ (memory : List ℕ) (v : ℕ) (m : List ℕ) (s : Sound m) (h : v < 32) where
-  -- the record with the voice's new words alone
+  -- the record with the voice's new words alone, and the mask true of them
   put : List ℕ
-  put = putVoice m v (wordsAfter memory (getD m SLOW 0) (voiceAt m v))
+  put = withMask (putVoice m v (wordsAfter memory (getD m SLOW 0) (voiceAt m v)))
 
   long : length (wordsAfter memory (getD m SLOW 0) (voiceAt m v)) ≡ 20
   unfolding wordsAfter
@@ -154,22 +155,27 @@ module _ (memory : List ℕ) (v : ℕ) (m : List ℕ) (s : Sound m) (h : v < 32)
   fits : 20 * v + 20 ≤ length m
   fits = omega (arith, s .size)
 
+  unmasked-size : length (putVoice m v (wordsAfter memory (getD m SLOW 0) (voiceAt m v))) ≡ RECORD_WORDS
+  unmasked-size = put-length m v (wordsAfter memory (getD m SLOW 0) (voiceAt m v)) long fits ∙ s .size
+
   put-size : length put ≡ RECORD_WORDS
   unfolding put
-  put-size = put-length m v (wordsAfter memory (getD m SLOW 0) (voiceAt m v)) long fits ∙ s .size
+  put-size = masked-length _ ∙ unmasked-size
 
-  put-word : (i : ℕ) → PAGE ≤ i → getD put i 0 ≡ getD m i 0
+  put-word : (i : ℕ) → PAGE ≤ i → i ≢ WAIT_MASK → getD put i 0 ≡ getD m i 0
   unfolding put
-  put-word i k = put-out m v (wordsAfter memory (getD m SLOW 0) (voiceAt m v)) long fits i (λ a b. omega arith)
+  put-word i k d = masked-word _ i d ∙ put-out m v (wordsAfter memory (getD m SLOW 0) (voiceAt m v)) long fits i (λ a b. omega arith)
 
   put-sound : Sound put
   unfolding put wordsAfter
-  put-sound = sound-put v (wordsAfter memory (getD m SLOW 0) (voiceAt m v)) s h long (turn-cut memory (getD m SLOW 0) (voiceAt m v) (λ j k. sound-voice m s v j h k))
+  put-sound = sound-masked
+      (range-put v (wordsAfter memory (getD m SLOW 0) (voiceAt m v)) (in-range s) h long
+      (turn-cut memory (getD m SLOW 0) (voiceAt m v) (λ j k. range-voice m (in-range s) v j h k)))
 
   -- the words between the voices and the sums stay, but for the vector
   pub turn-word : (i : ℕ) → PAGE ≤ i → i < SUMS → i ≢ IRQV → getD (turnAt memory v m) i 0 ≡ getD m i 0
   unfolding turnAt put wordsAfter
-  turn-word i k l d = signalled-word _ v _ i d ∙ added-word _ _ _ _ i l ∙ put-word i k
+  turn-word i k l d = signalled-word _ v _ i d ∙ added-word _ _ _ _ i l ∙ put-word i k (λ e. omega arith)
 
   -- the vector, by the flag as the turn leaves it
   pub turn-vector : getD (turnAt memory v m) IRQV 0
@@ -177,7 +183,7 @@ module _ (memory : List ℕ) (v : ℕ) (m : List ℕ) (s : Sound m) (h : v < 32)
   unfolding turnAt put wordsAfter
   turn-vector =
       let t = turnOf memory (getD m SLOW 0) (voiceOf (voiceAt m v)) in
-      let e = added-word put (channelOf (getD (voiceAt m v) 0 0)) (t .left) (t .right) IRQV (lit< tt) ∙ put-word IRQV (lit≤ tt) in
+      let e = added-word put (channelOf (getD (voiceAt m v) 0 0)) (t .left) (t .right) IRQV (lit< tt) ∙ put-word IRQV (lit≤ tt) (λ z. omega arith) in
       signalled-vector _ v _ (added-length _ _ _ _ ∙ put-size)
       ∙ ap (λ (x : ℕ). cond (flagOf IRQ (t .voice .cr) && eqb x NO_INTERRUPT) v x) e
 
@@ -185,7 +191,7 @@ module _ (memory : List ℕ) (v : ℕ) (m : List ℕ) (s : Sound m) (h : v < 32)
   unfolding turnAt put wordsAfter share
   turn-sum i k =
       signalled-word _ v _ (SUMS + i) (λ e. omega arith) ∙ added-sum _ _ _ _ put-sound i k
-      ∙ ap (λ (x : ℕ). (x + share memory (getD m SLOW 0) (voiceAt m v) i) % 8388608) (put-word (SUMS + i) (omega arith))
+      ∙ ap (λ (x : ℕ). (x + share memory (getD m SLOW 0) (voiceAt m v) i) % 8388608) (put-word (SUMS + i) (omega arith) (λ e. omega arith))
 
   -- a voice after it, from the same voice with the new words put
   turn-voice : (u : ℕ) → u < 32 → voiceAt (turnAt memory v m) u ≡ voiceAt put u
@@ -194,11 +200,11 @@ module _ (memory : List ℕ) (v : ℕ) (m : List ℕ) (s : Sound m) (h : v < 32)
 
   pub turn-same : voiceAt (turnAt memory v m) v ≡ wordsAfter memory (getD m SLOW 0) (voiceAt m v)
   unfolding put
-  turn-same = turn-voice v h ∙ put-same m v (wordsAfter memory (getD m SLOW 0) (voiceAt m v)) long fits
+  turn-same = turn-voice v h ∙ masked-voice _ v unmasked-size h ∙ put-same m v (wordsAfter memory (getD m SLOW 0) (voiceAt m v)) long fits
 
   pub turn-other : (u : ℕ) → u < 32 → u ≢ v → voiceAt (turnAt memory v m) u ≡ voiceAt m u
   unfolding put
-  turn-other u k d = turn-voice u k ∙ put-other m v (wordsAfter memory (getD m SLOW 0) (voiceAt m v)) long fits u (omega (arith, s .size)) d
+  turn-other u k d = turn-voice u k ∙ masked-voice _ u unmasked-size k ∙ put-other m v (wordsAfter memory (getD m SLOW 0) (voiceAt m v)) long fits u (omega (arith, s .size)) d
 
 -- ---- the turns of voices 0 to k - 1
 
@@ -225,7 +231,7 @@ module _ (memory : List ℕ) where
     past = λ v l k. absurd (not-suc-le-zero k);
     ahead = λ v l k. refl;
     words = λ i h l d. refl;
-    sums = λ i h. omega (arith, sum-small m s i h);
+    sums = λ i h. omega (arith, sum-small m (in-range s) i h);
   }
 
   one-more : {m m′ : List ℕ} (k : ℕ) → k < 32 → Turned memory k m m′ → Turned memory (suc k) m (turnAt memory k m′)
@@ -284,6 +290,16 @@ module _ (m : List ℕ) (s : Sound m) where
       ∙ List·getD-append (replicate 12 0) (drop 12 (drop SUMS m)) 0 i h
       ∙ getD-replicate 12 i 0 0 h
 
+  -- the mask, which stands after the sums
+  silenced-mask : getD (silenced m) WAIT_MASK 0 ≡ getD m WAIT_MASK 0
+  unfolding silenced
+  silenced-mask =
+      ap (λ (n : ℕ). getD (silenced m) (n + 12) 0) (sym low-length)
+      ∙ getD-append-add (take SUMS m) (replicate 12 0 ++ drop 12 (drop SUMS m)) 12 0
+      ∙ getD-append-add (replicate 12 0) (drop 12 (drop SUMS m)) 0 0
+      ∙ getD-drop 12 (drop SUMS m) 0 0
+      ∙ getD-drop SUMS m 12 0
+
   next : ℕ
   next = (getD (silenced m) SLOW 0 + 1) % 8
 
@@ -312,14 +328,17 @@ module _ (m : List ℕ) (s : Sound m) where
     size = silenced-length;
     words = λ i h. cases i SUMS (bitAnd (getD (silenced m) i 0) (bitsOf i) ≡ getD (silenced m) i 0)
         (λ l. rw (silenced-word i l) (s .words i h))
-        (λ l. let e : i ≡ SUMS + (i - SUMS) = omega arith in rw e (rw (silenced-sum (i - SUMS) (omega arith)) refl));
+        (λ l. cases i WAIT_MASK (bitAnd (getD (silenced m) i 0) (bitsOf i) ≡ getD (silenced m) i 0)
+        (λ k. let e : i ≡ SUMS + (i - SUMS) = omega arith in rw e (rw (silenced-sum (i - SUMS) (omega arith)) refl))
+        (λ k. let e : i ≡ WAIT_MASK = omega arith in rw (e, silenced-mask) (s .words WAIT_MASK (lit< tt))));
     vector = rw (silenced-word IRQV (omega arith)) (s .vector);
+    mask = silenced-mask ∙ s .mask ∙ sym (same-flags m (silenced m) (λ u k. silenced-word (20 * u + 0) (omega arith)));
   }
 
   pub sound-closed : Sound (closed m)
   unfolding closed next cut bitsOf sharedBits
   sound-closed =
-      sound-set SLOW next silenced-sound (omega arith)
+      sound-set SLOW next silenced-sound (omega arith) (omega arith)
       (and-mask next 3 ∙ mod-eq-of-lt (omega arith)) (λ e. absurd (let y : ⊥ = omega arith in y))
 
 -- a word that neither the turns nor the closing touch

@@ -16,7 +16,7 @@ use Rattle.answer.specs.declared.Answer.the-variants.{Done}
 use Rattle.answer.proofs.Refusals.{is-done}
 use Rattle.machine.specs.Words.{ACTV}
 use Rattle.machine.specs.Voices.{voiceAt}
-use Rattle.machine.proofs.Valid.{Sound, sound-voice}
+use Rattle.machine.proofs.Valid.{Sound, in-range, range-voice}
 use Rattle.sample.specs.Sample.{MOST_MEMORY_WORDS}
 use Rattle.sample.proofs.Laws.{within-four-banks}
 use Rattle.voice.specs.Voice.{voiceOf}
@@ -91,5 +91,5 @@ module _ (m memory : List ℕ) (out : List ℤ) where
   frame-missing-four-banks l = either-way (λ n. n ≡ 0) refl (λ s. missed-in-all memory m (λ v h t.
       let k : v < 32 = omega (arith, active-le m s) in
       let w = voiceOf (voiceAt m v) in
-      let b = within-four-banks (w .cr) (w .accum) (places-of (voiceAt m v) (λ j q. sound-voice m s v j k q) .accum) in
+      let b = within-four-banks (w .cr) (w .accum) (places-of (voiceAt m v) (λ j q. range-voice m (in-range s) v j k q) .accum) in
       record { first = omega (arith, b .0); second = omega (arith, b .1) }))

@@ -1,48 +1,82 @@
--- The turn as the code has it: the voice's part of the record is lent to its turn and put back, and what the turn adds is added.
--- In order: nothing added; the record with the part put back is valid; what is added is the turn's; the turn. Assumes nothing.
+-- The turn as the code has it: the voice's part of the record is lent to its turn and put back, what the turn adds is added, and then the mask
+-- follows its flag.
+-- In order: nothing added; the mask made true before or after something is added; the record with the part put back is in range; what is added is the
+-- turn's; the mask lacks the voice's flag at most; the turn. Assumes nothing.
 use mathlib.Core.Path.{_≡_, refl, sym, ap, _∙_}
-use mathlib.Core.Bool.{cond}
+use mathlib.Core.Bool.{true, false, cond}
 use mathlib.Core.List.{List, _++_}
 use Prim.Native.Nat.{ℕ, _+_, _*_, _%_, _<_, _≤_}
 use native.Mathlib.Omega.{arith}
 use borrow.Author.Tests.{ltb-true}
 use lib.Dec.{ltb, lit<, lit≤}
-use lib.IntN.{pos}
+use lib.IntN.{ℤ, pos}
 use lib.ListN.{length, getD, set, take, drop}
 use lib.Seq.{set-getD}
 use Rattle.numbers.specs.Numbers.{floorMod, word}
-use Rattle.numbers.proofs.Tests.{either, split}
-use Rattle.control.specs.Control.{channelOf, runs}
+use Rattle.numbers.proofs.Tests.{either, split, neither}
+use Rattle.control.specs.Control.{bitOf, flagOf, withBit, channelOf, runs, IRQ}
+use Rattle.control.proofs.Bits.{put-same, flag-bit, no-flag-bit}
+use Rattle.channel.specs.Channel.{mixed}
 use Rattle.channel.proofs.Laws.{mixed-is}
-use Rattle.machine.specs.Words.{CR, SLOW, SUMS, voiceWord}
+use Rattle.machine.specs.Words.{CR, SLOW, SUMS, WAIT_MASK, voiceWord, waitingVoices, withMask}
 use Rattle.machine.specs.Voices.{voiceAt, putVoice}
-use Rattle.machine.proofs.Parts.{put-in}
-use Rattle.machine.proofs.Valid.{Sound, sound-put, sound-voice}
+use Rattle.machine.proofs.Parts.{voice-word, put-in, put-out}
+use Rattle.machine.proofs.Mask.{bit-waits, one-marked, masked-word, masked-after}
+use Rattle.machine.proofs.Valid.{Sound, InRange, in-range, range-put, range-voice}
 use Rattle.voice.specs.Voice.{Turn, voiceOf, wordsOf}
 use Rattle.voice.specs.Turn.{stoppedTurn, turnOf}
 use Rattle.voice.specs.declared.Addend.{Addend}
 use Rattle.voice.specs.Takes.{TakesTurn}
 use Rattle.voice.proofs.Laws.{turn-stands}
+use Rattle.voice.proofs.Flag.{turn-flag}
 use Rattle.frame.specs.Frame.{addedTo, added, signalled, turnAt}
-use Rattle.frame.proofs.Steps.{added-none}
+use Rattle.frame.proofs.Steps.{added-none, added-to-other}
 use Rattle.frame.proofs.Keeps.{sum-small, words-length, turn-cut}
 use Rattle.frame.proofs.Leaves.{added-word}
 
 -- ---- nothing added
 
-added-to-nothing : (m : List ℕ) (i : ℕ) → Sound m → i < 12 → addedTo m (SUMS + i) (pos 0) ≡ m
+added-to-nothing : (m : List ℕ) (i : ℕ) → InRange m → i < 12 → addedTo m (SUMS + i) (pos 0) ≡ m
 unfolding addedTo word floorMod
 added-to-nothing m i s h =
     let e : (getD m (SUMS + i) 0 + 0) % 8388608 ≡ getD m (SUMS + i) 0 = omega (arith, sum-small m s i h) in
     ap (set m (SUMS + i)) (mixed-is (getD m (SUMS + i) 0) 0 ∙ e) ∙ set-getD m (SUMS + i) 0
 
-pub added-nothing : (m : List ℕ) (c : ℕ) → Sound m → added m c (pos 0) (pos 0) ≡ m
+pub added-nothing : (m : List ℕ) (c : ℕ) → InRange m → added m c (pos 0) (pos 0) ≡ m
 unfolding added
 added-nothing m c s = either (λ r. r ≡ m) (ltb c 6) _ _
     (λ t.
     let h = ltb-true c 6 t in
     let e : SUMS + 2 * c + 1 ≡ SUMS + (2 * c + 1) = omega arith in
     rw (added-to-nothing m (2 * c) s (omega arith), e) (added-to-nothing m (2 * c + 1) s (omega arith)))
+    (λ t. refl)
+
+-- ---- the mask
+
+masked-added-to : (m : List ℕ) (i : ℕ) (z : ℤ) → i < 12 → withMask (addedTo m (SUMS + i) z) ≡ addedTo (withMask m) (SUMS + i) z
+unfolding addedTo
+masked-added-to m i z h =
+    masked-after m (SUMS + i) (mixed (getD m (SUMS + i) 0) (word 23 z)) (omega arith) (λ e. omega arith)
+    ∙ ap (λ (x : ℕ). set (withMask m) (SUMS + i) (mixed x (word 23 z))) (sym (masked-word m (SUMS + i) (λ e. omega arith)))
+
+masked-added : (m : List ℕ) (c : ℕ) (left right : ℤ) → withMask (added m c left right) ≡ added (withMask m) c left right
+unfolding added
+masked-added m c left right = split _ (ltb c 6)
+    (λ t.
+    let h = ltb-true c 6 t in
+    let e : SUMS + 2 * c + 1 ≡ SUMS + (2 * c + 1) = omega arith in
+    rw (t, e)
+    (masked-added-to (addedTo m (SUMS + 2 * c) left) (2 * c + 1) right (omega arith)
+    ∙ ap (λ (n : List ℕ). addedTo n (SUMS + (2 * c + 1)) right) (masked-added-to m (2 * c) left (omega arith))))
+    (λ t. rw t)
+
+-- the word itself is no sum
+added-mask : (m : List ℕ) (c : ℕ) (left right : ℤ) → getD (added m c left right) WAIT_MASK 0 ≡ getD m WAIT_MASK 0
+unfolding added
+added-mask m c left right = either (λ n. getD n WAIT_MASK 0 ≡ getD m WAIT_MASK 0) (ltb c 6) _ m
+    (λ t.
+    let h = ltb-true c 6 t in
+    added-to-other (addedTo m (SUMS + 2 * c) left) (SUMS + 2 * c + 1) WAIT_MASK right (λ e. omega arith) ∙ added-to-other m (SUMS + 2 * c) WAIT_MASK left (λ e. omega arith))
     (λ t. refl)
 
 -- ---- the part put back
@@ -59,8 +93,10 @@ module _ (memory m : List ℕ) (v k : ℕ) (after : List ℕ) (a : Addend) (e : 
   unfolding voiceAt putVoice
   back-is = rw (p .words, e)
 
-  pub back-sound : Sound back
-  back-sound = rw back-is (sound-put v (wordsOf (result .voice)) s h (words-length (result .voice)) (turn-cut memory (getD m SLOW 0) (voiceAt m v) (λ j l. sound-voice m s v j h l)))
+  pub back-range : InRange back
+  back-range = rw back-is
+      (range-put v (wordsOf (result .voice)) (in-range s) h (words-length (result .voice))
+      (turn-cut memory (getD m SLOW 0) (voiceAt m v) (λ j l. range-voice m (in-range s) v j h l)))
 
   -- the addend is the turn's, of the voice's own words
   abbrev part : ℕ → List ℕ
@@ -85,15 +121,48 @@ module _ (memory m : List ℕ) (v k : ℕ) (after : List ℕ) (a : Addend) (e : 
       (λ t. rw t)
       (λ t.
       rw (t, turn-stands memory (getD m SLOW 0) (voiceOf (voiceAt m v)) t)
-      (added-none back 7 (pos 0) (pos 0) (lit≤ tt) ∙ sym (added-nothing back (channelOf (getD (voiceAt m v) CR 0)) back-sound))))
+      (added-none back 7 (pos 0) (pos 0) (lit≤ tt) ∙ sym (added-nothing back (channelOf (getD (voiceAt m v) CR 0)) back-range))))
+
+  fits : 20 * v + 20 ≤ length m
+  fits = omega (arith, s .size)
 
   back-control : getD (added back (a .channel) (a .left) (a .right)) (voiceWord v CR) 0 ≡ result .voice .cr
   unfolding wordsOf
   back-control =
-      let fits : 20 * v + 20 ≤ length m = omega (arith, s .size) in
       added-word back (a .channel) (a .left) (a .right) (voiceWord v CR) (omega arith) ∙ ap (λ (l : List ℕ). getD l (voiceWord v CR) 0) back-is
       ∙ put-in m v (wordsOf (result .voice)) (words-length (result .voice)) fits CR (lit< tt)
 
-  pub turn-taken : signalled (added back (a .channel) (a .left) (a .right)) v (getD (added back (a .channel) (a .left) (a .right)) (voiceWord v CR) 0) ≡ turnAt memory v m
+  -- a word that is none of the voice's and no sum
+  back-word : (i : ℕ) → i < SUMS → (20 * v ≤ i → i < 20 * v + 20 → ⊥) → getD (added back (a .channel) (a .left) (a .right)) i 0 ≡ getD m i 0
+  back-word i l d =
+      added-word back (a .channel) (a .left) (a .right) i l ∙ ap (λ (n : List ℕ). getD n i 0) back-is
+      ∙ put-out m v (wordsOf (result .voice)) (words-length (result .voice)) fits i d
+
+  back-mask : getD (added back (a .channel) (a .left) (a .right)) WAIT_MASK 0 ≡ getD m WAIT_MASK 0
+  back-mask =
+      added-mask back (a .channel) (a .left) (a .right) ∙ ap (λ (n : List ℕ). getD n WAIT_MASK 0) back-is
+      ∙ put-out m v (wordsOf (result .voice)) (words-length (result .voice)) fits WAIT_MASK (λ b d. omega arith)
+
+  -- a flag that is not set after the turn was not set before it, so the mask does not have it
+  not-waiting : flagOf IRQ (result .voice .cr) ≡ false → bitOf v (getD m WAIT_MASK 0) ≡ 0
+  not-waiting f =
+      let b = neither _ _ (sym (turn-flag memory (getD m SLOW 0) (voiceOf (voiceAt m v))) ∙ f) .0 in
+      ap (bitOf v) (s .mask) ∙ bit-waits m v h ∙ sym (ap (bitOf IRQ) (voice-word m v CR (lit< tt))) ∙ no-flag-bit IRQ (getD (voiceAt m v) CR 0) b
+
+  pub flag-lacks : let n = added back (a .channel) (a .left) (a .right) in
+      let cr = getD n (voiceWord v CR) 0 in
+      waitingVoices n ≡ cond (flagOf IRQ cr) (withBit v 1 (getD n WAIT_MASK 0)) (getD n WAIT_MASK 0)
+  flag-lacks =
+      let n = added back (a .channel) (a .left) (a .right) in
+      let cr = getD n (voiceWord v CR) 0 in
+      let W = getD n WAIT_MASK 0 in
+      let e = one-marked m n v (bitOf IRQ cr) (s .mask) back-mask h (λ u l d. back-word (voiceWord u CR) (omega arith) (λ x y. d (omega arith))) refl in
+      split _ (flagOf IRQ cr)
+      (λ t. rw t (e ∙ ap (λ (b : ℕ). withBit v b W) (flag-bit IRQ cr t)))
+      (λ t. rw t (e ∙ put-same v (bitOf IRQ cr) W
+      (ap (bitOf v) back-mask ∙ not-waiting (sym (ap (flagOf IRQ) back-control) ∙ t) ∙ sym (no-flag-bit IRQ cr t))))
+
+  pub turn-taken : signalled (withMask (added back (a .channel) (a .left) (a .right))) v (getD (added back (a .channel) (a .left) (a .right)) (voiceWord v CR) 0)
+      ≡ turnAt memory v m
   unfolding turnAt
-  turn-taken = rw (back-control, back-added, back-is)
+  turn-taken = rw (back-control, back-added, masked-added, back-is)

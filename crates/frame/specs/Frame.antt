@@ -14,7 +14,7 @@ use Rattle.answer.specs.declared.Answer.{Answer}
 use Rattle.answer.specs.declared.Answer.the-variants.{RecordLength, RecordInvalid, TooFewVoices, MemoryLength, OutputLength}
 use Rattle.control.specs.Control.{flagOf, channelOf, IRQ}
 use Rattle.channel.specs.Channel.{mixed, putOut}
-use Rattle.machine.specs.Words.{IRQV, ACTV, SLOW, SUMS, OUTPUT_VALUES, NO_INTERRUPT}
+use Rattle.machine.specs.Words.{IRQV, ACTV, SLOW, SUMS, OUTPUT_VALUES, NO_INTERRUPT, withMask}
 use Rattle.machine.specs.Voices.{voiceAt, putVoice}
 use Rattle.machine.specs.Check.{wrongLength, notValid}
 use Rattle.sample.specs.Sample.{tooManyWords}
@@ -36,13 +36,13 @@ added m c left right = cond (ltb c 6) (addedTo (addedTo m (SUMS + 2 * c) left) (
 unfoldable pub signalled : List ℕ → ℕ → ℕ → List ℕ
 signalled m v CR = cond (flagOf IRQ CR && eqb (getD m IRQV 0) NO_INTERRUPT) (set m IRQV v) m
 
--- The turn of voice v. It is taken on the registers as they stand; the voice's words become those that the turn leaves; left and right are
--- added to the sums of the channel that the voice was on; and the interrupt step goes by the flag as the turn left it.
+-- The turn of voice v. It is taken on the registers as they stand; the voice's words become those that the turn leaves, and the mask follows its
+-- flag; left and right are added to the sums of the channel that the voice was on; and the interrupt step goes by the flag as the turn left it.
 unfoldable pub turnAt : List ℕ → ℕ → List ℕ → List ℕ
 turnAt memory v m =
     let before = voiceOf (voiceAt m v) in
     let t = turnOf memory (getD m SLOW 0) before in
-    let stored = putVoice m v (wordsOf (t .voice)) in
+    let stored = withMask (putVoice m v (wordsOf (t .voice))) in
     let sounded = added stored (channelOf (before .cr)) (t .left) (t .right) in
     signalled sounded v (t .voice .cr)
 

@@ -2,14 +2,15 @@
 // A voice's twenty words are lent to its turn as a part of the record; what it adds to its channel comes back by value, and is added here. The
 // number of missing words is lent to each turn, which adds its own.
 ghost use mathlib.Core.Path.{_≡_};
-ghost use mathlib.Core.Bool.{true};
+ghost use mathlib.Core.Bool.{true, cond};
 ghost use mathlib.Core.List.{map};
 ghost use Prim.Native.Nat.{ℕ, _+_, _*_, _%_, _^_, _<_};
 ghost use lib.ListN.{length, getD, replicate};
 ghost use Rattle.numbers.specs.Numbers.{Within};
 ghost use Rattle.codes.specs.Codes.{Expands};
+ghost use Rattle.control.specs.Control.{flagOf, withBit, IRQ};
 ghost use Rattle.channel.specs.Channel.{putOut};
-ghost use Rattle.machine.specs.Words.{RECORD_WORDS, VOICES, SLOW, SUMS, OUTPUT_VALUES, valid};
+ghost use Rattle.machine.specs.Words.{RECORD_WORDS, VOICES, SLOW, SUMS, OUTPUT_VALUES, WAIT_MASK, waitingVoices, withMask, valid};
 ghost use Rattle.sample.specs.Lasts.{Lasts};
 ghost use Rattle.voice.specs.Voice.{voiceOf};
 ghost use Rattle.voice.specs.Missed.{missedBy};
@@ -146,13 +147,16 @@ fn left_sum(channel: u32) -> usize
     machine::SUMS + 2 * channel as usize
 }
 
-// A waiting voice enters an empty vector.
+// A waiting voice goes into the mask, and enters an empty vector. A turn never clears a flag, so where the voice does not wait the mask is true
+// already, and costs nothing.
 fn signal(m: &mut [u32], v: usize, cr: u32)
     requires { ⌜ length (now m) ≡ RECORD_WORDS ⌝ }
     requires { ⌜ v < VOICES ⌝ }
-    ensures { λ _. ⌜ now (m .exit) ≡ signalled (now (m .entry)) v cr ⌝ }
+    requires { ⌜ waitingVoices (now m) ≡ cond (flagOf IRQ cr) (withBit v 1 (getD (now m) WAIT_MASK 0)) (getD (now m) WAIT_MASK 0) ⌝ }
+    ensures { λ _. ⌜ now (m .exit) ≡ signalled (withMask (now (m .entry))) v cr ⌝ }
 {
     if control::flag(control::IRQ, cr) {
+        machine::mark(m, v, 1);
         if m[machine::IRQV] == machine::NO_INTERRUPT {
             m[machine::IRQV] = v as u32;
         }

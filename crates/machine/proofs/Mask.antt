@@ -4,7 +4,7 @@
 -- (`one-flag`, `same-flags`, `set-flags`, `set-shared`, `one-marked`); the record with its mask made true (`masked-…`). That such a record is valid
 -- is Valid. Assumes nothing.
 use mathlib.Core.Path.{_≡_, sym, ap, ap₂, _∙_}
-use mathlib.Core.Bool.{true, false}
+use mathlib.Core.Bool.{false}
 use mathlib.Core.List.{List}
 use mathlib.Core.Logic.{_≢_}
 use Prim.Native.Nat.{ℕ, _+_, _*_, _/_, _^_, _<_, _≤_}
@@ -14,11 +14,9 @@ use lib.Dec.{eqb}
 use lib.Pow.{pow-pos}
 use lib.ListN.{length, getD, set, length-set}
 use lib.Seq.{getD-set-same, getD-set-other, set-getD, set-comm}
-use borrow.Author.Tests.{eqb-true, eqb-false, ne-eqb}
-use Rattle.numbers.proofs.Tests.{split}
 use Rattle.numbers.proofs.Sum.{sum-ext, sum-zeros}
 use Rattle.control.specs.Control.{bitOf, flagOf, withBit, IRQ}
-use Rattle.control.proofs.Bits.{bit-le, joined}
+use Rattle.control.proofs.Bits.{bit-le, joined, no-flag-bit}
 use Rattle.control.proofs.Mask.{mask-lt, mask-bit, mask-changed}
 use Rattle.machine.specs.Words.{RECORD_WORDS, VOICES, PAGE, CR, WAIT_MASK, voiceWord, waits, waitingVoices, withMask}
 use Rattle.machine.specs.Voices.{voiceAt}
@@ -50,13 +48,9 @@ module _ (m : List ℕ) where
   none-waits e v h = let z : 0 / 2 ^ v ≡ 0 = div-eq-of-lt (pow-pos v) in sym (flag-waits v h) ∙ rw (e, z)
 
   pub waits-none : ((v : ℕ) → v < VOICES → waits m v ≡ false) → waitingVoices m ≡ 0
-  unfolding waitingVoices flagOf
+  unfolding waitingVoices
   waits-none f = sum-zeros VOICES (λ v. flagBit m v * 2 ^ v)
-      (λ v h.
-      let b = bit-le IRQ (getD m (voiceWord v CR) 0) in
-      let d = eqb-false (flagBit m v) 1 (f v h) in
-      let z : flagBit m v ≡ 0 = omega arith in
-      ap (λ (x : ℕ). x * 2 ^ v) z ∙ zero-mul (2 ^ v))
+      (λ v h. ap (λ (x : ℕ). x * 2 ^ v) (no-flag-bit IRQ (getD m (voiceWord v CR) 0) (f v h)) ∙ zero-mul (2 ^ v))
 
   -- its part from voice v on, by the voice's flag and the part after it
   pub flags-from : (v : ℕ) → v < VOICES → 2 * (waitingVoices m / 2 ^ (v + 1)) + bitOf IRQ (getD m (voiceWord v CR) 0) ≡ waitingVoices m / 2 ^ v

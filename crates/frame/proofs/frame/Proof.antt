@@ -3,7 +3,7 @@ use mathlib.Core.Path.{_≡_, sym, ap, subst, _∙_}
 use borrow.Author.Needs.{needs}
 use Rattle.answer.specs.declared.Answer.the-variants.{Done}
 use Rattle.answer.proofs.Refusals.{is-refusal}
-use Rattle.machine.proofs.Valid.{Sound, is-valid}
+use Rattle.machine.proofs.Valid.{Sound, in-range, is-valid}
 use Rattle.frame.specs.Frame.{closed, heard, frameAnswer}
 use Rattle.frame.proofs.Keeps.{sound-played, sum-small}
 use Rattle.frame.proofs.Answered.{Ready, done-frame, frames-refused, frames-done}
@@ -28,7 +28,7 @@ close-requires c κs =
     let t = c .before .before .before .before .before .before in
     let p = c .before .before .before .before .play .ensures in
     let s = subst Sound (sym (p .0)) (sound-played _ (lent t .machine)) in
-    (s .size, (sum-small _ s, lent t .values))
+    (s .size, (sum-small _ (in-range s), lent t .values))
 
 returns-2 : tie.Need-returns-2
 returns-2 c =

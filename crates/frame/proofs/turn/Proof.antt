@@ -13,13 +13,13 @@ use Rattle.numbers.proofs.Local.{ranged, within}
 use Rattle.machine.specs.Words.{SLOW, RECORD_WORDS}
 use Rattle.machine.specs.Voices.{voiceAt}
 use Rattle.machine.proofs.Parts.{voice-length}
-use Rattle.machine.proofs.Valid.{Sound, sound, sound-voice}
+use Rattle.machine.proofs.Valid.{Sound, InRange, sound, in-range, range-voice}
 use Rattle.voice.specs.declared.Addend.{Addend}
 use Rattle.voice.specs.Voice.{voiceOf}
 use Rattle.voice.specs.Missed.{missedBy}
 use Rattle.voice.specs.Takes.{TakesTurn}
 use Rattle.frame.proofs.Keeps.{ranges-of, sum-small}
-use Rattle.frame.proofs.Taken.{back-sound, turn-taken}
+use Rattle.frame.proofs.Taken.{back-range, flag-lacks, turn-taken}
 use Rattle.frame.proofs.turn.Statement.{statement}
 use Rattle.frame.proofs.turn.Tie as tie
 
@@ -37,7 +37,7 @@ turn-requires c κs =
     let v = s .args .v in
     let m = s .args .m .now in
     let fits : 20 * v + 20 ≤ length m = omega (arith, whole s .size, s .pre .1 .0) in
-    rw (twenty v) (voice-length m v fits, (ranges-of (voiceAt m v) (λ j k. sound-voice m (whole s) v j (s .pre .1 .0) k), s .pre .1 .1 .1))
+    rw (twenty v) (voice-length m v fits, (ranges-of (voiceAt m v) (λ j k. range-voice m (in-range (whole s)) v j (s .pre .1 .0) k), s .pre .1 .1 .1))
 
 -- the record with the voice's part put back
 module _ (s : tie.Start) (after : List ℕ) (a : Addend)
@@ -48,8 +48,8 @@ module _ (s : tie.Start) (after : List ℕ) (a : Addend)
   taken : TakesTurn (now (s .args .memory)) (getD (s .args .m .now) SLOW 0) (take part (drop (20 * s .args .v) (s .args .m .now))) after a
   taken = subst (λ (x : ℕ). TakesTurn (now (s .args .memory)) x (take part (drop (20 * s .args .v) (s .args .m .now))) after a) (s .pre .1 .1 .0) p
 
-  put-back : Sound (putMid (20 * s .args .v) part (s .args .m .now) after)
-  put-back = back-sound (now (s .args .memory)) (s .args .m .now) (s .args .v) part after a (twenty (s .args .v)) taken (whole s) (s .pre .1 .0)
+  put-back : InRange (putMid (20 * s .args .v) part (s .args .m .now) after)
+  put-back = back-range (now (s .args .memory)) (s .args .m .now) (s .args .v) part after a (twenty (s .args .v)) taken (whole s) (s .pre .1 .0)
 
 add-requires : tie.Need-add-requires
 add-requires c κs =
@@ -61,6 +61,23 @@ add-requires c κs =
 -- and with what the turn adds, which is as long
 added-size : (c : tie.After-add) → length (c .add .last .0) ≡ RECORD_WORDS
 added-size c = let t = c .before .before .before .before .before .before .turn in c .add .kept .0 ∙ put-back (c .before .before .before .before .before .before .before .before .before .before .before) (t .last .0) (t .result) (t .ensures .0) .size
+
+-- and of the mask, which lacks the voice's flag at most
+signal-requires : tie.Need-signal-requires
+signal-requires c κs =
+    let a = c .before .before .before .before .add in
+    let t = c .before .before .before .before .before .before .before .before .before .before .turn in
+    let s = c .before .before .before .before .before .before .before .before .before .before .before .before .before .before .before in
+    let v = s .args .v in
+    let p = t .ensures .0 in (
+      added-size (c .before .before .before .before),
+      (
+        s .pre .1 .0,
+        rw (a .ensures, ranged w32 tt (p .small-left) .is, ranged w32 tt (p .small-right) .is)
+            (flag-lacks (now (s .args .memory)) (s .args .m .now) v (part s (t .last .0) (t .result) p) (t .last .0) (t .result) (twenty v)
+            (taken s (t .last .0) (t .result) p) (whole s) (s .pre .1 .0)),
+      ),
+    )
 
 returns : tie.Need-returns
 unfolding voiceAt
@@ -93,6 +110,6 @@ turn-spec =
     (λ c. search needs)
     (λ c. search needs)
     (λ c. omega (arith, added-size (c .before .before .before), c .before .before .before .before .before .before .before .before .before .before .before .before .before .before .pre .1 .0))
-    (λ c κs. (added-size (c .before .before .before .before), c .before .before .before .before .before .before .before .before .before .before .before .before .before .before .before .pre .1 .0))
+    signal-requires
     (λ c. search needs)
     returns)
