@@ -12,7 +12,7 @@ use Rattle.machine.proofs.Fresh.{fresh-valid}
 use Rattle.machine.proofs.Valid.{sound, is-valid}
 use Rattle.registers.proofs.Corollaries.{write-valid, read-valid, pot-valid}
 use Rattle.calls.proofs.Runs.{frame-sound}
-use Rattle.calls.specs.Calls.{Call, Reset, Write, Read, SetPot, Frame, after, run}
+use Rattle.calls.specs.Calls.{Call, Reset, Write, Read, SetPot, Waiting, Frame, after, run}
 
 -- a call whose byte is one
 abbrev pub Byte : Call → Type 0
@@ -20,6 +20,7 @@ Byte Reset = Unit {0}
 Byte (Write a b) = b < 256
 Byte (Read a) = Unit {0}
 Byte (SetPot p) = Unit {0}
+Byte Waiting = Unit {0}
 Byte (Frame memory out) = Unit {0}
 
 pub after-valid : (m : List ℕ) (c : Call) → Byte c → valid m ≡ true → valid (after m c) ≡ true
@@ -28,6 +29,7 @@ after-valid m Reset h v = either (λ (n : List ℕ). valid n ≡ true) (isDone (
 after-valid m (Write a b) h v = write-valid m a b h v
 after-valid m (Read a) h v = read-valid m a v
 after-valid m (SetPot p) h v = pot-valid m p v
+after-valid m Waiting h v = v
 after-valid m (Frame memory out) h v = is-valid _ (frame-sound m memory out (sound m v))
 
 abbrev pub Bytes : List Call → Type 0

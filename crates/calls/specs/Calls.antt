@@ -6,15 +6,17 @@ use mathlib.Core.List.{List, [], _∷_, _++_}
 use lib.IntN.{ℤ}
 use Rattle.answer.specs.declared.Answer.{Answer}
 use Rattle.machine.specs.Reset.{resetAnswer, resetRecord}
+use Rattle.machine.specs.Waiting.{waitingAnswer, waitingMask}
 use Rattle.registers.specs.Access.{byteAnswer, writeRecord, readRecord, readByte, potAnswer, potRecord}
 use Rattle.frame.specs.Frame.{frameAnswer, frameRecord, frameOutput, frameMissing}
 
--- a call: a write has an address and a byte, a read an address; a frame is lent sample memory and an output
+-- a call: a write has an address and a byte, a read an address; `Waiting` asks which voices wait; a frame is lent sample memory and an output
 pub data Call : Type 0 where
   Reset : Call
   Write : ℕ → ℕ → Call
   Read : ℕ → Call
   SetPot : ℕ → Call
+  Waiting : Call
   Frame : List ℕ → List ℤ → Call
 
 unfoldable pub answerTo : List ℕ → Call → Answer
@@ -22,6 +24,7 @@ answerTo m Reset = resetAnswer m
 answerTo m (Write a b) = byteAnswer m a
 answerTo m (Read a) = byteAnswer m a
 answerTo m (SetPot p) = potAnswer m p
+answerTo m Waiting = waitingAnswer m
 answerTo m (Frame memory out) = frameAnswer m memory out
 
 -- the record afterwards
@@ -30,14 +33,16 @@ after m Reset = resetRecord m
 after m (Write a b) = writeRecord m a b
 after m (Read a) = readRecord m a
 after m (SetPot p) = potRecord m p
+after m Waiting = m
 after m (Frame memory out) = frameRecord m memory out
 
--- the number that it gives beside its answer: a read its byte, a frame how many words were missing, another call 0
+-- the number that it gives beside its answer: a read its byte, `Waiting` the mask, a frame how many words were missing, another call 0
 unfoldable pub givenBy : List ℕ → Call → ℕ
 givenBy m Reset = 0
 givenBy m (Write a b) = 0
 givenBy m (Read a) = readByte m a
 givenBy m (SetPot p) = 0
+givenBy m Waiting = waitingMask m
 givenBy m (Frame memory out) = frameMissing m memory out
 
 -- the output that a frame leaves; another call is lent none
@@ -46,6 +51,7 @@ outputFrom m Reset = []
 outputFrom m (Write a b) = []
 outputFrom m (Read a) = []
 outputFrom m (SetPot p) = []
+outputFrom m Waiting = []
 outputFrom m (Frame memory out) = frameOutput m memory out
 
 -- ---- a run

@@ -1,4 +1,4 @@
-// A call as a value, performed on a record: the five calls that take a record, in one.
+// A call as a value, performed on a record: the six calls that take a record, in one.
 ghost use Rattle.calls.specs.Asks.{Performs};
 use answer::Answer;
 
@@ -7,10 +7,12 @@ pub enum Ask {
     Write(u32, u8),
     Read(u32),
     SetPot(u32),
+    Waiting,
     Frame,
 }
 
-// What a call answers, and the number that it gives beside: a read its byte, a frame how many words were missing; 0 of any other.
+// What a call answers, and the number that it gives beside: a read its byte, `Waiting` the mask of the waiting voices, a frame how many words were
+// missing; 0 of any other.
 pub struct Reply {
     pub answer: Answer,
     pub given: u32,
@@ -41,6 +43,14 @@ pub fn perform(m: &mut [u32], ask: Ask, memory: &[u16], out: &mut [i32]) -> Repl
             answer: registers::set_pot(m, p),
             given: 0,
         },
+        Ask::Waiting => {
+            let waiters = machine::waiting(m);
+            let answer = waiters.answer;
+            Reply {
+                answer: answer,
+                given: waiters.mask,
+            }
+        }
         Ask::Frame => {
             let framed = frame::frame(m, memory, out);
             let answer = framed.answer;

@@ -1,17 +1,18 @@
 -- Each call's own promise, with the number of its answer, is that of its C function. Assumes nothing.
-use mathlib.Core.Path.{_≡_, ap, _∙_}
+use mathlib.Core.Path.{_≡_, refl, ap, _∙_}
 use mathlib.Core.List.{List}
 use Prim.Native.Nat.{ℕ}
 use lib.IntN.{ℤ}
 use Rattle.answer.specs.Answer.{answerNumber}
 use Rattle.answer.specs.declared.Answer.{Answer}
 use Rattle.machine.specs.Reset.{Resets}
+use Rattle.machine.specs.Waiting.{Waits}
 use Rattle.registers.specs.Access.{Writes, Reads, SetsPot}
 use Rattle.frame.specs.Frame.{Frames}
 use Rattle.wave_in.specs.Import.{Imports}
 use Rattle.wave_in.specs.declared.Imported.{Imported}
-use Rattle.calls.specs.Calls.{Reset, Write, SetPot, answerTo, after, givenBy, outputFrom}
-use Rattle.otto.specs.Promises.{Calling, Reading, Framing, Importing}
+use Rattle.calls.specs.Calls.{Reset, Write, SetPot, Waiting, answerTo, after, givenBy, outputFrom}
+use Rattle.otto.specs.Promises.{Calling, Reading, TellingWaiting, Framing, Importing}
 
 module _ {m later : List ℕ} {a : Answer} {n : ℕ} (number : n ≡ answerNumber a) where
   pub reset-number : Resets m a later → Calling m Reset n later
@@ -38,6 +39,10 @@ module _ {m later : List ℕ} {a : Answer} {n : ℕ} (number : n ≡ answerNumbe
     misses = e ∙ p .misses;
     sounds = p .sounds;
   }
+
+pub waiting-number : {m : List ℕ} {a : Answer} {n x mask : ℕ} → n ≡ answerNumber a → mask ≡ x → Waits m a x → TellingWaiting m n mask
+unfolding answerTo after givenBy
+waiting-number number e p = record { calls = record { answers = number ∙ ap answerNumber (p .answers); leaves = refl }; gives = e ∙ p .gives }
 
 pub import-number : (file memory : List ℕ) (word : ℕ) {r : Imported} {n start end bits samples : ℕ} {later : List ℕ} → n ≡ answerNumber (r .answer)
     → start ≡ r .start → end ≡ r .end → bits ≡ r .bits → samples ≡ r .samples → Imports file memory word r later → Importing file memory word n start end bits samples later

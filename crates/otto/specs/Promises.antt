@@ -7,7 +7,7 @@ use lib.IntN.{ℤ}
 use lib.ListN.{length}
 use Rattle.answer.specs.Answer.{answerNumber}
 use Rattle.wave_in.specs.Import.{imported, importMemory}
-use Rattle.calls.specs.Calls.{Call, answerTo, after, givenBy, outputFrom, Read, Frame}
+use Rattle.calls.specs.Calls.{Call, answerTo, after, givenBy, outputFrom, Read, Waiting, Frame}
 
 -- a call that is lent a record alone
 pub record Calling (m : List ℕ) (c : Call) (number : ℕ) (later : List ℕ) : Type 0 where
@@ -18,6 +18,11 @@ pub record Calling (m : List ℕ) (c : Call) (number : ℕ) (later : List ℕ) :
 pub record Reading (m : List ℕ) (a : ℕ) (number byte : ℕ) (later : List ℕ) : Type 0 where
   pub calls : Calling m (Read a) number later
   pub gives : byte ≡ givenBy m (Read a)
+
+-- which voices wait: the record is lent to look at, with a place for the mask
+pub record TellingWaiting (m : List ℕ) (number mask : ℕ) : Type 0 where
+  pub calls : Calling m Waiting number m
+  pub gives : mask ≡ givenBy m Waiting
 
 -- a frame, which is lent sample memory, an output and a place for the number of missing words
 pub record Framing (m memory : List ℕ) (out : List ℤ) (number missing : ℕ) (later : List ℕ) (sound : List ℤ) : Type 0 where

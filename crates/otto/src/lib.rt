@@ -3,7 +3,7 @@
 ghost use mathlib.Core.Path.{_≡_};
 ghost use Rattle.codes.specs.Codes.{valueOf, Compressed};
 ghost use Rattle.calls.specs.Calls.{Reset, Write, SetPot};
-ghost use Rattle.otto.specs.Promises.{Calling, Reading, Framing, Importing};
+ghost use Rattle.otto.specs.Promises.{Calling, Reading, TellingWaiting, Framing, Importing};
 
 #[no_mangle]
 pub extern "C" fn otto_reset(record: &mut [u32]) -> u32
@@ -34,6 +34,16 @@ pub extern "C" fn otto_set_pot(record: &mut [u32], pot: u32) -> u32
     ensures { λ r. ⌜ Calling (now («record» .entry)) (SetPot pot) r (now («record» .exit)) ⌝ }
 {
     answer::number(registers::set_pot(record, pot))
+}
+
+#[no_mangle]
+pub extern "C" fn otto_waiting(record: &[u32], mask: &mut u32) -> u32
+    ensures { λ r. ⌜ TellingWaiting (now («record» .entry)) r (now (mask .exit)) ⌝ }
+{
+    let waiters = machine::waiting(record);
+    *mask = waiters.mask;
+    let a = waiters.answer;
+    answer::number(a)
 }
 
 #[no_mangle]

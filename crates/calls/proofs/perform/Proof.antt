@@ -1,5 +1,5 @@
--- `calls::perform` meets its contract: the ask is one of the five, and that call's promise is what is owed. Assumes nothing.
-use mathlib.Core.Path.{_≡_, sym, subst}
+-- `calls::perform` meets its contract: the ask is one of the six, and that call's promise is what is owed. Assumes nothing.
+use mathlib.Core.Path.{_≡_, refl, sym, subst}
 use mathlib.Core.List.{List}
 use Prim.Native.Nat.{ℕ}
 use borrow.Author.Needs.{needs}
@@ -7,7 +7,7 @@ use lib.IntN.{ℤ}
 use Rattle.answer.specs.declared.Answer.{Answer}
 use Rattle.calls.specs.Asks.{Performs}
 use Rattle.calls.specs.declared.Ask.{Ask}
-use Rattle.calls.proofs.Performs.{resets, writes, reads, sets-pot, frames}
+use Rattle.calls.proofs.Performs.{resets, writes, reads, sets-pot, tells-waiting, frames}
 use Rattle.calls.proofs.perform.Statement.{statement}
 use Rattle.calls.proofs.perform.Tie as tie
 
@@ -28,7 +28,10 @@ returns-4 : tie.Need-returns-4
 returns-4 c = of-ask (c .before .before .before .before .before .ask3 .given .1) (sets-pot _ _ _ _ (c .before .before .set-pot .ensures))
 
 returns-5 : tie.Need-returns-5
-returns-5 c = of-ask (c .before .before .before .before .before .before .enum-told2 .given .1) (frames _ _ _ (c .before .before .before .frame .ensures))
+returns-5 c = of-ask (c .before .before .enum-told2 .given .1) (tells-waiting _ _ _ refl (c .waiting .ensures))
+
+returns-6 : tie.Need-returns-6
+returns-6 c = of-ask (c .before .before .before .before .before .before .enum-told3 .given .1) (frames _ _ _ (c .before .before .before .frame .ensures))
 
 pub perform-spec : {M : Type 1} → statement M
 perform-spec =
@@ -46,6 +49,8 @@ perform-spec =
     (λ c. search needs)
     (λ c κs. search needs)
     (λ c. search needs)
+    (λ c κs. search needs)
+    (λ c. search needs)
     returns
     (λ c. search needs)
     returns-2
@@ -54,5 +59,7 @@ perform-spec =
     (λ c. search needs)
     returns-4
     (λ c. search needs)
+    returns-5
     (λ c. search needs)
-    returns-5)
+    (λ c. search needs)
+    returns-6)
