@@ -27,9 +27,10 @@ static uint32_t missing;
 /* ==== frames of voices on loops in noise ================================== */
 
 /* Thirty-two voices that run on loops in noise, spread over channels, filter
-   kinds and loop modes; extra is added to each CR. */
+   kinds and loop modes; extra is added to each CR, and has no flag. */
 static void set_voices(uint32_t extra, uint32_t ecount)
 {
+    record[WORD_WAITING] = 0;
     for (uint32_t v = 0; v < VOICES; v++) {
         uint32_t *voice = record + v * VOICE_WORDS;
 
@@ -225,11 +226,13 @@ static void must_have_events(void)
 
         *cr = (*cr | CR_IRQE) & ~CR_IRQ;
     }
+    record[WORD_WAITING] = 0;
     must(one_frame() == OTTO_DONE, "the frame is done");
     for (uint32_t v = 0; v < VOICES; v++) {
         must((record[v * VOICE_WORDS + VOICE_CR] & CR_IRQ) != 0,
              "each voice has an event in each frame");
     }
+    must(record[WORD_WAITING] == 0xFFFFFFFFu, "the mask has each of them");
 }
 
 static void must_be_worst(uint32_t mode)
@@ -274,7 +277,7 @@ static uint32_t run_write(uint32_t times)
     for (uint32_t i = 0; i < times; i++) {
         sum += engine->write(record, OTTO_RECORD_WORDS, i % 52, (uint8_t)i);
     }
-    return 31 * sum + record[0] + record[9];
+    return 31 * sum + record[0] + record[9] + record[WORD_WAITING];
 }
 
 static uint32_t run_read(uint32_t times)
@@ -287,6 +290,35 @@ static uint32_t run_read(uint32_t times)
         sum = 31 * sum + byte;
     }
     return sum;
+}
+
+static uint32_t ask_waiting(uint32_t times)
+{
+    uint32_t sum = 0;
+    uint32_t mask = 0;
+
+    for (uint32_t i = 0; i < times; i++) {
+        sum += engine->waiting(record, OTTO_RECORD_WORDS, &mask);
+        sum = 31 * sum + mask;
+    }
+    return sum;
+}
+
+/* Thirty-two voices that run, of which every third waits. */
+static uint32_t run_waiting(uint32_t times)
+{
+    set_voices(0, 0);
+    for (uint32_t v = 0; v < VOICES; v += 3) {
+        record[v * VOICE_WORDS + VOICE_CR] |= CR_IRQ;
+        record[WORD_WAITING] |= 1u << v;
+    }
+    return ask_waiting(times);
+}
+
+/* No voice runs and none waits. */
+static uint32_t run_waiting_none(uint32_t times)
+{
+    return ask_waiting(times);
 }
 
 static uint32_t run_compress(uint32_t times)
@@ -392,6 +424,8 @@ static const struct {
     { "frame_ramps", run_frame_ramps },
     { "write", run_write },
     { "read", run_read },
+    { "waiting", run_waiting },
+    { "waiting_none", run_waiting_none },
     { "compress", run_compress },
     { "expand", run_expand },
     { "import", run_import },

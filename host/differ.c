@@ -18,6 +18,7 @@
 #define LEAST_FRAMES 200000u
 #define LEAST_FEW    1000u /* for each count of voices */
 #define LEAST_MISSED 1000u /* for each number of missing words */
+#define LEAST_MASKS  1000u /* of each kind */
 
 static void run_seed(uint64_t seed)
 {
@@ -57,6 +58,15 @@ static int missed_met(const struct pair_counts *n)
     return enough;
 }
 
+/* Whether masks with and without a voice were answered, and refused for each
+   reason, often enough. */
+static int masks_met(const struct pair_counts *n)
+{
+    return n->some_wait >= LEAST_MASKS && n->none_wait >= LEAST_MASKS &&
+           n->long_or_short >= LEAST_MASKS && n->invalid >= LEAST_MASKS &&
+           n->untrue >= LEAST_MASKS;
+}
+
 int main(int words, char **word)
 {
     uint64_t first = number(words, word, 1, 0);
@@ -83,8 +93,12 @@ int main(int words, char **word)
            "%lu\n",
            n->missed[0], n->missed[1], n->missed[2], n->missed[3],
            n->missed[4]);
+    printf("differ: masks of waiting voices: some %lu, none %lu; refused with "
+           "1: %lu, with 2: %lu, for the mask alone: %lu\n",
+           n->some_wait, n->none_wait, n->long_or_short, n->invalid,
+           n->untrue);
     if (words == 1 && (n->bytes < LEAST_BYTES || n->frames < LEAST_FRAMES ||
-                       !few_met(n) || !missed_met(n))) {
+                       !few_met(n) || !missed_met(n) || !masks_met(n))) {
         printf("differ: that is too little\n");
         return 1;
     }

@@ -12,8 +12,8 @@
 #define CALLS(prefix)                                                        \
     {                                                                        \
         #prefix, prefix##_reset, prefix##_write, prefix##_read,              \
-            prefix##_set_pot, prefix##_frame, prefix##_import,               \
-            prefix##_compress, prefix##_expand                               \
+            prefix##_set_pot, prefix##_frame, prefix##_waiting,              \
+            prefix##_import, prefix##_compress, prefix##_expand              \
     }
 
 const struct engine engine_otto = CALLS(otto);

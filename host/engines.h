@@ -19,6 +19,7 @@ struct engine {
     uint32_t (*frame)(uint32_t *record, size_t words, const uint16_t *memory,
                       size_t memory_words, int32_t *output,
                       size_t output_values, uint32_t *missing);
+    uint32_t (*waiting)(const uint32_t *record, size_t words, uint32_t *mask);
     uint32_t (*import)(const uint8_t *file, size_t file_bytes,
                        uint16_t *memory, size_t memory_words, size_t word,
                        uint32_t *start, uint32_t *end, uint32_t *loop,

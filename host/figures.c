@@ -1,8 +1,9 @@
 /*
  * Checks the reference model against known figures: the table of checked
  * figures in the rules, the manual's examples of compressed samples, the
- * refusals and their order, and the places where the wording could be taken
- * in two ways. Those of WAVE files are in wave_figures.c.
+ * refusals and their order, the mask of waiting voices, and the places where
+ * the wording could be taken in two ways. Those of WAVE files are in
+ * wave_figures.c.
  *
  * Record words are mostly written as plain numbers here, so that the names in
  * the header are checked too.
@@ -16,8 +17,10 @@
 
 /* ==== the bench =========================================================== */
 
-static uint32_t rec[664];           /* one word more than a record */
-static uint32_t before[664];
+#define ALL (RECORD_WORDS + 1)       /* a record and one word more */
+
+static uint32_t rec[ALL];
+static uint32_t before[ALL];
 static int32_t out[13];
 static uint32_t missing;            /* words, in the last frame */
 static uint16_t loud[16];           /* every word 32767 */
@@ -28,25 +31,26 @@ static uint16_t whole[8388608];     /* the longest memory */
 static void fresh(void)
 {
     memset(rec, 0, sizeof rec);
-    (void)reference_reset(rec, 663);
+    (void)reference_reset(rec, RECORD_WORDS);
     memset(out, 0, sizeof out);
 }
 
 static uint32_t frame(const uint16_t *memory, size_t length)
 {
-    return reference_frame(rec, 663, memory, length, out, 12, &missing);
+    return reference_frame(rec, RECORD_WORDS, memory, length, out, 12,
+                           &missing);
 }
 
 static uint32_t put(uint32_t address, uint32_t value)
 {
-    return reference_write(rec, 663, address, (uint8_t)value);
+    return reference_write(rec, RECORD_WORDS, address, (uint8_t)value);
 }
 
 static uint32_t get(uint32_t address)
 {
     uint8_t byte = 0xEE;
 
-    (void)reference_read(rec, 663, address, &byte);
+    (void)reference_read(rec, RECORD_WORDS, address, &byte);
     return byte;
 }
 
@@ -68,17 +72,29 @@ static uint32_t get_register(uint32_t number)
     return value * 256 + get(4 * number + 3);
 }
 
+/* Makes the mask what the control registers say, after one with a flag was put
+   by hand. */
+static void tell_mask(void)
+{
+    uint32_t voice;
+
+    rec[663] = 0;
+    for (voice = 0; voice < 32; voice++) {
+        rec[663] |= (W(voice, 0) / 0x80 % 2) << voice;
+    }
+}
+
 static void keep(void)
 {
     memcpy(before, rec, sizeof rec);
 }
 
-/* The first word that is not as it was kept, or 664. */
+/* The first word that is not as it was kept, or ALL. */
 static uint32_t first_change(void)
 {
     uint32_t word;
 
-    for (word = 0; word < 664; word++) {
+    for (word = 0; word < ALL; word++) {
         if (rec[word] != before[word]) {
             break;
         }
@@ -91,7 +107,7 @@ static uint32_t count_changes(void)
     uint32_t word;
     uint32_t count = 0;
 
-    for (word = 0; word < 664; word++) {
+    for (word = 0; word < ALL; word++) {
         if (rec[word] != before[word]) {
             count += 1;
         }
@@ -515,11 +531,12 @@ static void reset(void)
 {
     uint32_t word;
 
-    for (word = 0; word < 664; word++) {
+    for (word = 0; word < ALL; word++) {
         rec[word] = 0xA5A5A5A5u;
     }
-    check("reset of a damaged record", reference_reset(rec, 663), 0);
-    for (word = 0; word < 663; word++) {
+    check("reset of a damaged record", reference_reset(rec, RECORD_WORDS),
+          0);
+    for (word = 0; word < RECORD_WORDS; word++) {
         uint32_t want = 0;
 
         if (word < 640 && word % 20 == 0) {
@@ -539,7 +556,7 @@ static void reset(void)
         }
         check_at("reset word", word, 0, rec[word], want);
     }
-    check("reset goes no further", rec[663], 0xA5A5A5A5);
+    check("reset goes no further", rec[RECORD_WORDS], 0xA5A5A5A5);
 }
 
 /* ==== validity ============================================================ */
@@ -574,6 +591,8 @@ static uint32_t allowed_bits(uint32_t word)
     case 649:
     case 650:
         return 0xFFFFFFFF;
+    case 663:
+        return 0; /* while no voice has a flag */
     default:
         return 0x7FFFFF;
     }
@@ -584,7 +603,7 @@ static void validity(void)
     uint32_t word;
 
     /* Each single bit of each word, on top of a record just reset. */
-    for (word = 0; word < 663; word++) {
+    for (word = 0; word < RECORD_WORDS; word++) {
         uint32_t taken = 0;
         uint32_t bit;
 
@@ -593,7 +612,10 @@ static void validity(void)
             uint32_t answer;
 
             rec[word] = (uint32_t)1 << bit;
-            answer = reference_set_pot(rec, 663, 0);
+            if (word < 640) {
+                tell_mask();
+            }
+            answer = reference_set_pot(rec, RECORD_WORDS, 0);
             if (answer == 0) {
                 taken |= (uint32_t)1 << bit;
             }
@@ -627,7 +649,7 @@ static void valid_latches_and_signs(void)
     fresh();
     rec[649] = 0x000000FFu;
     rec[650] = 0xFFFFFFFFu;
-    check("any latch", reference_set_pot(rec, 663, 1), 0);
+    check("any latch", reference_set_pot(rec, RECORD_WORDS, 1), 0);
 
     /* Signed words stand without sign extension. */
     fresh();
@@ -656,7 +678,7 @@ static void refused_frame(const char *name, size_t words, size_t memory_words,
                           &missing),
           want);
     check(name, missing, 0);
-    check(name, first_change(), 664);
+    check(name, first_change(), ALL);
     for (place = 0; place < 13; place++) {
         check(name, out[place], 77);
     }
@@ -672,7 +694,17 @@ static void refused_bytes(const char *name, size_t words, uint32_t address,
     check(name, reference_read(rec, words, address, &byte), want_byte);
     check(name, byte, 0);
     check(name, reference_set_pot(rec, words, pot), want_pot);
-    check(name, first_change(), 664);
+    check(name, first_change(), ALL);
+}
+
+static void refused_waiting(const char *name, size_t words, uint32_t want)
+{
+    uint32_t mask = 77;
+
+    keep();
+    check(name, reference_waiting(rec, words, &mask), want);
+    check(name, mask, 0);
+    check(name, first_change(), ALL);
 }
 
 static void refusals(void)
@@ -681,21 +713,25 @@ static void refusals(void)
     fresh();
     rec[650] = 0x12345678u;
     rec[640] = 200;
-    refused_bytes("length 662", 662, 64, 1024, 1, 1);
-    refused_bytes("length 664", 664, 64, 1024, 1, 1);
+    refused_bytes("a word short", RECORD_WORDS - 1, 64, 1024, 1, 1);
+    refused_bytes("a word long", RECORD_WORDS + 1, 64, 1024, 1, 1);
     refused_bytes("length 0", 0, 64, 1024, 1, 1);
-    refused_frame("frame, length 662", 662, 8388609, 11, 1);
-    refused_frame("frame, length 664", 664, 8388609, 13, 1);
+    refused_frame("frame, a word short", RECORD_WORDS - 1, 8388609, 11, 1);
+    refused_frame("frame, a word long", RECORD_WORDS + 1, 8388609, 13, 1);
     refused_frame("frame, length 0", 0, 8388609, 0, 1);
+    refused_waiting("waiting, a word short", RECORD_WORDS - 1, 1);
+    refused_waiting("waiting, a word long", RECORD_WORDS + 1, 1);
+    refused_waiting("waiting, length 0", 0, 1);
     keep();
-    check("reset, length 662", reference_reset(rec, 662), 1);
-    check("reset, length 664", reference_reset(rec, 664), 1);
+    check("reset, a word short", reference_reset(rec, RECORD_WORDS - 1), 1);
+    check("reset, a word long", reference_reset(rec, RECORD_WORDS + 1), 1);
     check("reset, length 0", reference_reset(rec, 0), 1);
-    check("reset refused changes nothing", first_change(), 664);
+    check("reset refused changes nothing", first_change(), ALL);
 
     /* An invalid record comes before address, pot, memory and output. */
-    refused_bytes("invalid record", 663, 64, 1024, 2, 2);
-    refused_frame("frame, invalid record", 663, 8388609, 11, 2);
+    refused_bytes("invalid record", RECORD_WORDS, 64, 1024, 2, 2);
+    refused_frame("frame, invalid record", RECORD_WORDS, 8388609, 11, 2);
+    refused_waiting("waiting, invalid record", RECORD_WORDS, 2);
 }
 
 static void refused_arguments(void)
@@ -703,20 +739,21 @@ static void refused_arguments(void)
     /* Then the arguments. */
     fresh();
     rec[650] = 0x12345678u;
-    refused_bytes("first bad address and pot", 663, 64, 1024, 3, 4);
-    refused_bytes("far address and pot", 663, 0xFFFFFFFFu, 0xFFFFFFFFu, 3, 4);
-    refused_frame("memory too long", 663, 8388609, 12, 5);
-    refused_frame("memory and output", 663, 8388609, 11, 5);
-    refused_frame("output short", 663, 16, 11, 6);
-    refused_frame("output long", 663, 16, 13, 6);
-    refused_frame("no output", 663, 8388608, 0, 6);
+    refused_bytes("first bad address and pot", RECORD_WORDS, 64, 1024, 3, 4);
+    refused_bytes("far address and pot", RECORD_WORDS, 0xFFFFFFFFu,
+                  0xFFFFFFFFu, 3, 4);
+    refused_frame("memory too long", RECORD_WORDS, 8388609, 12, 5);
+    refused_frame("memory and output", RECORD_WORDS, 8388609, 11, 5);
+    refused_frame("output short", RECORD_WORDS, 16, 11, 6);
+    refused_frame("output long", RECORD_WORDS, 16, 13, 6);
+    refused_frame("no output", RECORD_WORDS, 8388608, 0, 6);
 
     /* The last good ones. */
     fresh();
     check("address 63", put(63, 5), 0);
     check("page", rec[640], 5);
-    check("pot 1023", reference_set_pot(rec, 663, 1023), 0);
-    check("pot 0", reference_set_pot(rec, 663, 0), 0);
+    check("pot 1023", reference_set_pot(rec, RECORD_WORDS, 1023), 0);
+    check("pot 0", reference_set_pot(rec, RECORD_WORDS, 0), 0);
     check("PAR", rec[642], 0);
     check("empty memory", frame(NULL, 0), 0);
     check("longest memory", frame(whole, 8388608), 0);
@@ -733,15 +770,21 @@ static void few_voices(void)
         W(0, 0) = 0x0300u;
         check_at("few voices written", last, 0, put(47, last), 0);
         check_at("few voices", last, 0, rec[643], last);
-        refused_frame("few voices, a frame", 663, 16, 12, 7);
-        refused_frame("few voices, longest memory", 663, 8388608, 12, 7);
-        refused_frame("few voices, memory too long", 663, 8388609, 12, 7);
-        refused_frame("few voices, output short", 663, 16, 11, 7);
-        refused_frame("few voices, memory and output", 663, 8388609, 0, 7);
-        refused_bytes("few voices, address and pot", 663, 64, 1024, 3, 4);
-        refused_frame("few voices, length 662", 662, 8388609, 11, 1);
+        refused_frame("few voices, a frame", RECORD_WORDS, 16, 12, 7);
+        refused_frame("few voices, longest memory", RECORD_WORDS, 8388608, 12,
+                      7);
+        refused_frame("few voices, memory too long", RECORD_WORDS, 8388609, 12,
+                      7);
+        refused_frame("few voices, output short", RECORD_WORDS, 16, 11, 7);
+        refused_frame("few voices, memory and output", RECORD_WORDS, 8388609,
+                      0, 7);
+        refused_bytes("few voices, address and pot", RECORD_WORDS, 64, 1024, 3,
+                      4);
+        refused_frame("few voices, a word short", RECORD_WORDS - 1, 8388609,
+                      11, 1);
         rec[640] = 200;
-        refused_frame("few voices, invalid record", 663, 8388609, 11, 2);
+        refused_frame("few voices, invalid record", RECORD_WORDS, 8388609, 11,
+                      2);
     }
 }
 
@@ -753,31 +796,35 @@ static void five_voices(void)
     W(0, 12) = 0xFFFFFF80u;
     W(0, 0) = 0x0300u;
     check("ACTV below 4 is taken", put(47, 3), 0);
-    refused_frame("four voices", 663, 16, 12, 7);
+    refused_frame("four voices", RECORD_WORDS, 16, 12, 7);
     check("ACTV is read", get_register(11), 3);
-    check("pot, four voices", reference_set_pot(rec, 663, 5), 0);
+    check("pot, four voices", reference_set_pot(rec, RECORD_WORDS, 5), 0);
     check("ACTV 4 is taken", put(47, 4), 0);
     check("five voices", frame(loud, 16), 0);
     check("five voices, a step", W(0, 13), 0x0400);
     check("five voices, memory too long",
-          reference_frame(rec, 663, whole, 8388609, out, 11, &missing), 5);
+          reference_frame(rec, RECORD_WORDS, whole, 8388609, out, 11,
+                          &missing),
+          5);
     check("ACTV below 4 again", put(47, 0), 0);
-    check("reset, one voice", reference_reset(rec, 663), 0);
+    check("reset, one voice", reference_reset(rec, RECORD_WORDS), 0);
     check("ACTV after a reset", rec[643], 31);
 }
 
 /* ==== registers by byte =================================================== */
 
-/* Word and readability of a register; 663 where there is no word. */
+#define NO_WORD RECORD_WORDS
+
+/* Word of a register; NO_WORD where there is none. */
 static uint32_t map_word(uint32_t page, uint32_t number)
 {
     static const uint32_t lower[16] = { 0, 1,  2,   3,   4,   5,   6,   7,
                                         8, 9, 10, 643, 644, 642, 641, 640 };
     static const uint32_t upper[16] = { 0,  11,  12,  13,  14,  15,  16, 17,
                                         18, 19, 645, 646, 647, 642, 641, 640 };
-    static const uint32_t test[16] = { 651, 652, 653, 654, 655, 656, 657, 658,
-                                       659, 660, 661, 662, 663, 642, 641,
-                                       640 };
+    static const uint32_t test[16] = { 651, 652, 653,     654, 655, 656,
+                                       657, 658, 659,     660, 661, 662,
+                                       NO_WORD, 642, 641, 640 };
 
     if (page < 32) {
         return lower[number] < 20 ? 20 * page + lower[number] : lower[number];
@@ -792,12 +839,14 @@ static uint32_t map_word(uint32_t page, uint32_t number)
 static void write_place(uint32_t page, uint32_t number)
 {
     uint32_t home = map_word(page, number);
-    int fixed = number == 13 || number == 14 || home == 663;
+    int fixed = number == 13 || number == 14 || home == NO_WORD;
+    int is_control = number == 0 && page < 64;
     uint32_t word;
 
-    /* Write all ones over zeros: one word changes, cut as kept. */
+    /* Write all ones over zeros: one word changes, cut as kept; with a control
+       register the mask does too. */
     fresh();
-    for (word = 0; word < 663; word++) {
+    for (word = 0; word < RECORD_WORDS; word++) {
         rec[word] = 0;
     }
     rec[640] = page;
@@ -808,9 +857,12 @@ static void write_place(uint32_t page, uint32_t number)
                  0);
     } else {
         check_at("write, place", page, number, first_change(), home);
-        check_at("write, count", page, number, count_changes(), 1);
+        check_at("write, count", page, number, count_changes(),
+                 is_control ? 2 : 1);
         check_at("write, value", page, number, rec[home],
                  allowed_bits(home));
+        check_at("write, mask", page, number, rec[663],
+                 is_control ? INT64_C(1) << page % 32 : 0);
     }
 }
 
@@ -820,11 +872,12 @@ static void read_place(uint32_t page, uint32_t number)
     uint32_t word;
 
     /* Read a record in which every word is told by its bits. */
-    for (word = 0; word < 663; word++) {
+    for (word = 0; word < RECORD_WORDS; word++) {
         rec[word] = (word * 0x9E3779B1u) & allowed_bits(word);
     }
     rec[640] = page;
     rec[641] = 128;
+    tell_mask();
     keep();
     check_at("read, value", page, number, get_register(number),
              page >= 64 && number <= 12 ? 0 : before[home]);
@@ -926,6 +979,7 @@ static void taken_values(void)
     rec[641] = 5;
     rec[642] = 7;
     W(5, 0) = 0x83;
+    tell_mask();
     rec[650] = 0x12345678u;
     check("PAR byte 1", get(53), 0x34);
     check("PAR byte 3", get(55), 0x78);
@@ -952,6 +1006,7 @@ static void vector_and_flags(void)
     rec[643] = 3;
     rec[641] = 30;
     W(30, 0) = 0xFFFFu;
+    tell_mask();
     check("inactive voice's interrupt", get_register(14), 30);
     check("inactive voice's flag", W(30, 0), 0xFF7F);
     rec[641] = 2;
@@ -963,6 +1018,7 @@ static void vector_and_flags(void)
     fresh();
     rec[641] = 0;
     W(0, 0) = 0x83;
+    tell_mask();
     put_register(0, 3);
     check("flag written off", W(0, 0), 3);
     check("vector stands", rec[641], 0);
@@ -1197,6 +1253,7 @@ static void filters(void)
         W(voice, 19) = 1000;
         W(voice, 0) = 0x83;
     }
+    tell_mask();
     rec[641] = 128;
     (void)frame(NULL, 0);
     check("active, stopped filter", W(6, 19), 500);
@@ -1205,6 +1262,7 @@ static void filters(void)
     fresh();
     rec[643] = 6;
     W(7, 0) = 0x80;
+    tell_mask();
     keep();
     (void)frame(loud, 16);
     rec[648] = 0;
@@ -1313,7 +1371,8 @@ static void volume(void)
             }
             check_at("channel", channel, place, out[place], want);
         }
-        check_at("channel, beyond the record", channel, 0, rec[663], 0);
+        check_at("channel, beyond the record", channel, 0, rec[RECORD_WORDS],
+                 0);
     }
 }
 
@@ -1589,6 +1648,7 @@ static void waiting_interrupts(void)
     /* IRQE is not asked of a flag that the host set; stopped voices too. */
     fresh();
     W(0, 0) = 0x83;
+    tell_mask();
     (void)frame(NULL, 0);
     check("forced interrupt", rec[641], 0);
     check("forced flag stands", W(0, 0), 0x83);
@@ -1598,6 +1658,7 @@ static void waiting_interrupts(void)
     W(4, 0) = 0x28; /* an event of this very frame */
     W(4, 1) = 1;
     W(9, 0) = 0x83;
+    tell_mask();
     (void)frame(NULL, 0);
     check("event of this frame first", rec[641], 4);
     check("event sets the flag", W(4, 0), 0xA8);
@@ -1614,6 +1675,7 @@ static void waiting_interrupts(void)
     fresh();
     rec[641] = 20;
     W(4, 0) = 0x83;
+    tell_mask();
     (void)frame(NULL, 0);
     check("vector taken", rec[641], 20);
     check("flag waits", W(4, 0), 0x83);
@@ -1644,6 +1706,385 @@ static void idle_frames(void)
     check("others stand", count_changes(), 1);
 }
 
+/* ==== the waiting voices ================================================== */
+
+#define BIT(voice) ((uint32_t)1 << (voice))
+
+/* The mask, asked for by a call that must be done. */
+static uint32_t mask_now(void)
+{
+    uint32_t mask = 77;
+
+    keep();
+    check("waiting, done", reference_waiting(rec, RECORD_WORDS, &mask), 0);
+    check("waiting changes nothing", first_change(), ALL);
+    check("waiting gives the word", mask, rec[663]);
+    return mask;
+}
+
+/* A whole control register, written on the given page. */
+static void put_control(uint32_t page, uint32_t cr)
+{
+    put_register(15, page);
+    put_register(0, cr);
+}
+
+/* A stopped voice with its flag on, put by hand. */
+static void put_flag(uint32_t voice)
+{
+    W(voice, 0) = 0x83;
+    tell_mask();
+}
+
+static void mask_after_reset(void)
+{
+    check("length of a record", RECORD_WORDS, 664);
+    fresh();
+    check("mask after reset", mask_now(), 0);
+    memset(rec, 0xFF, sizeof rec);
+    check("reset with a mask", reference_reset(rec, RECORD_WORDS), 0);
+    check("mask after a reset with a mask", mask_now(), 0);
+    put_control(31, 0x83);
+    check("mask before a reset", mask_now(), 0x80000000);
+    check("reset with a flag", reference_reset(rec, RECORD_WORDS), 0);
+    check("mask after a reset with a flag", mask_now(), 0);
+}
+
+/* The flag of a voice, and then of another one, by the two pages that have it;
+   ten voices are active. */
+static void written_flags(uint32_t voice, uint32_t set, uint32_t clear)
+{
+    uint32_t other = (voice + 7) % 32;
+
+    fresh();
+    rec[643] = 9;
+    put_control(set + voice, 0x83);
+    check_at("flag written", voice, set, mask_now(), BIT(voice));
+    put_control(set + voice, 0xFFFF);
+    check_at("flag written again", voice, set, mask_now(), BIT(voice));
+    put_control(clear + other, 0x80);
+    check_at("two flags", voice, set, mask_now(), BIT(voice) + BIT(other));
+    put_control(clear + voice, 0xFF7F);
+    check_at("all but the flag", voice, clear, mask_now(), BIT(other));
+    put_control(set + other, 3);
+    check_at("both flags off", voice, clear, mask_now(), 0);
+    put_control(clear + voice, 3);
+    check_at("flag off again", voice, clear, mask_now(), 0);
+}
+
+static void mask_by_writes(void)
+{
+    uint32_t voice;
+
+    for (voice = 0; voice < 32; voice++) {
+        written_flags(voice, 0, 0);
+        written_flags(voice, 0, 32);
+        written_flags(voice, 32, 0);
+        written_flags(voice, 32, 32);
+    }
+}
+
+/* All 32 flags, one after another, and off again from the last on. */
+static void mask_of_all(void)
+{
+    uint32_t voice;
+
+    fresh();
+    for (voice = 0; voice < 32; voice++) {
+        put_control(voice % 2 * 32 + voice, 0x83);
+        check_at("so many flags", voice, 0, mask_now(),
+                 (INT64_C(2) << voice) - 1);
+    }
+    for (voice = 32; voice-- > 0;) {
+        put_control(voice % 2 * 32 + voice, 3);
+        check_at("so many left", voice, 0, mask_now(),
+                 (INT64_C(1) << voice) - 1);
+    }
+}
+
+/* However many voices are active, also too few for a frame. */
+static void mask_of_any_count(void)
+{
+    uint32_t last;
+
+    for (last = 0; last < 32; last++) {
+        fresh();
+        put_flag(2);
+        put_flag(31);
+        rec[643] = last;
+        check_at("mask, so many active", last, 0, mask_now(), 0x80000004);
+    }
+}
+
+/* A frame in which the voice alone runs, with a step of 1 from 0, where START
+   and END are: an event in either direction, unless LEI is set. */
+static uint32_t mask_of_event(uint32_t voice, uint32_t cr, uint32_t last)
+{
+    fresh();
+    rec[643] = last;
+    W(voice, 0) = cr;
+    W(voice, 1) = 1;
+    tell_mask();
+    check("a frame that may flag", frame(NULL, 0), 0);
+    return mask_now();
+}
+
+/* Each loop mode in both directions: DIR, BLE, LPE. */
+static void mask_of_modes(uint32_t voice)
+{
+    uint32_t mode;
+
+    for (mode = 0; mode < 8; mode++) {
+        uint32_t cr = mode / 4 * 0x40 + mode % 4 * 0x08;
+
+        check_at("an event", voice, cr, mask_of_event(voice, cr + 0x20, 31),
+                 BIT(voice));
+        check_at("an event without IRQE", voice, cr,
+                 mask_of_event(voice, cr, 31), 0);
+        check_at("an event of a flagged voice", voice, cr,
+                 mask_of_event(voice, cr + 0x80, 31), BIT(voice));
+        check_at("with LEI", voice, cr, mask_of_event(voice, cr + 0x24, 31),
+                 0);
+    }
+}
+
+static void mask_by_events(void)
+{
+    uint32_t voice;
+
+    for (voice = 0; voice < 32; voice++) {
+        mask_of_modes(voice);
+        check_at("stopped", voice, 0, mask_of_event(voice, 0x29, 31), 0);
+        check_at("active or not", voice, 0, mask_of_event(voice, 0x28, 15),
+                 voice < 16 ? BIT(voice) : 0);
+        check_at("flagged, active or not", voice, 0,
+                 mask_of_event(voice, 0xA8, 15), BIT(voice));
+    }
+}
+
+/* Reading byte 0 of the vector takes the flag of the voice that it names; no
+   other byte takes one. */
+static void mask_after_read(uint32_t voice)
+{
+    uint32_t next = (voice + 1) % 32;
+    uint32_t address;
+
+    for (address = 0; address < 64; address++) {
+        int taken = address == 56;
+
+        fresh();
+        rec[643] = 9;
+        put_flag(voice);
+        put_flag(next);
+        rec[641] = voice;
+        (void)get(address);
+        check_at("mask after a read", voice, address, mask_now(),
+                 taken ? BIT(next) : BIT(next) + BIT(voice));
+        check_at("vector after a read", voice, address, rec[641],
+                 taken ? 128 : voice);
+    }
+}
+
+static void mask_by_reads(void)
+{
+    uint32_t voice;
+
+    for (voice = 0; voice < 32; voice++) {
+        mask_after_read(voice);
+    }
+
+    /* No voice in the vector, and one that does not wait. */
+    fresh();
+    put_flag(30);
+    (void)get(56);
+    check("mask, vector free", mask_now(), BIT(30));
+    rec[641] = 2;
+    (void)get(56);
+    check("mask, vector without flag", mask_now(), BIT(30));
+    check("vector without flag, free now", rec[641], 128);
+}
+
+/* Voices wait for the vector one after another, those that are not active for
+   ever; the host takes each. */
+static void mask_taken_in_turn(void)
+{
+    fresh();
+    rec[643] = 9;
+    put_flag(4);
+    put_flag(9);
+    put_flag(10);
+    check("three wait", mask_now(), 0x610);
+    (void)frame(NULL, 0);
+    check("the vector takes none", mask_now(), 0x610);
+    check("first taken", get_register(14), 4);
+    check("two wait", mask_now(), 0x600);
+    (void)frame(NULL, 0);
+    check("second taken", get_register(14), 9);
+    check("one waits", mask_now(), 0x400);
+    (void)frame(NULL, 0);
+    check("none to take", get_register(14), 128);
+    check("one still waits", mask_now(), 0x400);
+    put_control(42, 3);
+    check("none waits", mask_now(), 0);
+}
+
+/* Everything but reset refuses a record with another mask, and reset mends
+   it. */
+static void refused_mask(const char *name)
+{
+    refused_bytes(name, RECORD_WORDS, 0, 0, 2, 2);
+    refused_frame(name, RECORD_WORDS, 16, 12, 2);
+    refused_waiting(name, RECORD_WORDS, 2);
+    refused_waiting(name, RECORD_WORDS - 1, 1);
+    refused_waiting(name, RECORD_WORDS + 1, 1);
+    check(name, reference_reset(rec, RECORD_WORDS), 0);
+    check(name, mask_now(), 0);
+}
+
+static void false_masks(void)
+{
+    uint32_t voice;
+
+    for (voice = 0; voice < 32; voice++) {
+        fresh();
+        rec[663] = BIT(voice);
+        refused_mask("a bit and no flag");
+        put_flag(voice);
+        rec[663] = 0;
+        refused_mask("a flag and no bit");
+        put_flag(voice);
+        rec[663] = BIT((voice + 1) % 32);
+        refused_mask("the bit of the next voice");
+        put_flag(voice);
+        rec[663] = ~rec[663];
+        refused_mask("all bits but the flag's");
+        put_flag(3);
+        put_flag(31);
+        W(voice, 0) ^= 0x80;
+        refused_mask("a flag changed alone");
+    }
+    put_flag(3);
+    put_flag(20);
+    rec[643] = 9;
+    rec[663] = BIT(3);
+    refused_mask("active voices only");
+}
+
+/* Bytes 0 to 2 of a control register leave the mask alone, and so does every
+   register that is none. */
+static void mask_left_by_writes(void)
+{
+    uint32_t page;
+    uint32_t number;
+
+    for (page = 0; page < 128; page++) {
+        fresh();
+        put_flag(0);
+        put_flag(31);
+        put_register(15, page);
+        (void)put(0, 0xFF);
+        (void)put(1, 0xFF);
+        (void)put(2, 0xFF);
+        check_at("bytes 0 to 2", page, 0, mask_now(), 0x80000001);
+        for (number = page < 64 ? 1 : 0; number < 15; number++) {
+            put_register(number, 0xFFFFFFFFu);
+        }
+        check_at("other registers", page, 0, mask_now(), 0x80000001);
+    }
+}
+
+/* The pot, a call that is refused, and a frame without events. */
+static void mask_left_by_calls(void)
+{
+    fresh();
+    put_flag(0);
+    put_flag(31);
+    check("pot", reference_set_pot(rec, RECORD_WORDS, 0), 0);
+    check("pot, mask", mask_now(), 0x80000001);
+    check("pot refused", reference_set_pot(rec, RECORD_WORDS, 1024), 4);
+    check("pot refused, mask", mask_now(), 0x80000001);
+    check("address refused", put(64, 0), 3);
+    check("address refused, mask", mask_now(), 0x80000001);
+    check("a frame", frame(NULL, 0), 0);
+    check("a frame, mask", mask_now(), 0x80000001);
+}
+
+/* Register 12 of the pages from 64 on is no word; the mask, which comes after
+   the sums, least of all. */
+static void mask_of_no_register(void)
+{
+    uint32_t page;
+
+    for (page = 64; page < 128; page++) {
+        fresh();
+        put_flag(17);
+        rec[640] = page;
+        keep();
+        put_register(12, 0xFFFFFFFFu);
+        check_at("register 12, nothing written", page, 0, count_changes(), 0);
+        put_register(12, 0);
+        check_at("register 12, nothing cleared", page, 0, count_changes(), 0);
+        check_at("register 12 is read", page, 0, get_register(12), 0);
+        check_at("register 12, mask", page, 0, mask_now(), BIT(17));
+    }
+}
+
+/* Of a mask the lowest voice up to the last one, or the sign for none. */
+static uint32_t lowest_of(uint32_t mask, uint32_t last)
+{
+    uint32_t voice;
+
+    for (voice = 0; voice <= last; voice++) {
+        if (mask / BIT(voice) % 2 == 1) {
+            return voice;
+        }
+    }
+    return 128;
+}
+
+/* Voices that wait, that come to wait in this frame, that have an event without
+   IRQE, or that are stopped; the lowest ones are stopped in any case. Gives the
+   mask that a frame leaves. */
+static uint32_t set_mixture(uint32_t trial, uint32_t last)
+{
+    static const uint32_t controls[4] = { 0x83, 0x28, 0x08, 0x03 };
+    uint32_t mask = 0;
+    uint32_t voice;
+
+    for (voice = trial % 16 * 2; voice < 32; voice++) {
+        uint32_t kind = (trial * 32 + voice) * 0x9E3779B1u / BIT(30);
+
+        W(voice, 0) = controls[kind];
+        W(voice, 1) = 1;
+        if (kind == 0 || (kind == 1 && voice <= last)) {
+            mask += BIT(voice);
+        }
+    }
+    tell_mask();
+    return mask;
+}
+
+/* A frame that finds the vector free leaves the lowest active voice of the mask
+   in it. */
+static void vector_and_mask(void)
+{
+    uint32_t last;
+    uint32_t trial;
+    uint32_t mask;
+
+    for (last = 4; last < 32; last++) {
+        for (trial = 0; trial < 64; trial++) {
+            fresh();
+            rec[643] = last;
+            mask = set_mixture(trial, last);
+            (void)frame(NULL, 0);
+            check_at("mask of a frame", last, trial, mask_now(), mask);
+            check_at("vector of a mask", last, trial, rec[641],
+                     lowest_of(mask, last));
+        }
+    }
+}
+
 /* ==== all ================================================================= */
 
 static void (*const groups[])(void) = {
@@ -1656,7 +2097,10 @@ static void (*const groups[])(void) = {
     missing_words, missing_of_all, missing_as_it_begins, filters, pole_edges,
     halving, range, volume, what_sounds, written_sums, address, address_rest,
     ramps, slow_ramps, values_before_ramps, events, waiting_interrupts,
-    idle_frames, wave_figures,
+    idle_frames, mask_after_reset, mask_by_writes, mask_of_all,
+    mask_of_any_count, mask_by_events, mask_by_reads, mask_taken_in_turn,
+    false_masks, mask_left_by_writes, mask_left_by_calls, mask_of_no_register,
+    vector_and_mask, wave_figures,
 };
 
 int main(void)

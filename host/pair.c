@@ -28,13 +28,14 @@ struct lent {
     int32_t *output;
     uint8_t *byte;
     uint32_t *missing;
+    uint32_t *mask;
 };
 
 #define RECORD_BYTES  ((MOST_RECORD + MOST_BEHIND) * sizeof(uint32_t))
 #define OUTPUT_BYTES  (MOST_OUTPUT * sizeof(int32_t))
 #define BYTE_BYTES    16u
-#define MISSING_BYTES 16u
-#define UNSET         0xEEEEEEEEu /* in the number's place before a frame */
+#define NUMBER_BYTES  16u
+#define UNSET         0xEEEEEEEEu /* in a number's place before the call */
 
 struct pair_counts pair_counts;
 
@@ -68,8 +69,9 @@ static void fresh(struct lent *lent)
         lent->output[-(ptrdiff_t)i] = (int32_t)i;
     }
     memset(lent->byte - BYTE_BYTES, 0xEE, BYTE_BYTES);
-    for (size_t i = 1; i <= MISSING_BYTES / sizeof(uint32_t); i++) {
+    for (size_t i = 1; i <= NUMBER_BYTES / sizeof(uint32_t); i++) {
         lent->missing[-(ptrdiff_t)i] = UNSET;
+        lent->mask[-(ptrdiff_t)i] = UNSET;
     }
 }
 
@@ -141,6 +143,17 @@ static int unlike(const void *one, const void *other, size_t bytes)
                   bytes) != 0;
 }
 
+static void compare_number(const char *call, const char *what,
+                           const uint32_t *one, const uint32_t *other)
+{
+    if (one[-1] != other[-1]) {
+        stop_at(call, what, 0, one[-1], other[-1]);
+    }
+    if (unlike(one, other, NUMBER_BYTES)) {
+        stop(call, "the words before the number differ");
+    }
+}
+
 /* All that was lent, and the answers. */
 static uint32_t compare(const char *call, const uint32_t answers[2])
 {
@@ -158,13 +171,8 @@ static uint32_t compare(const char *call, const uint32_t answers[2])
     if (unlike(lents[0].byte, lents[1].byte, BYTE_BYTES)) {
         stop(call, "the bytes differ");
     }
-    if (lents[0].missing[-1] != lents[1].missing[-1]) {
-        stop_at(call, "missing words", 0, lents[0].missing[-1],
-                lents[1].missing[-1]);
-    }
-    if (unlike(lents[0].missing, lents[1].missing, MISSING_BYTES)) {
-        stop(call, "the words before the number differ");
-    }
+    compare_number(call, "missing words", lents[0].missing, lents[1].missing);
+    compare_number(call, "mask", lents[0].mask, lents[1].mask);
     pair_counts.refusals += answers[0] != OTTO_DONE;
     return answers[0];
 }
@@ -179,7 +187,8 @@ void pair_open(const struct engine *one, const struct engine *other)
         lents[i].edge = guarded(RECORD_BYTES);
         lents[i].output = guarded(OUTPUT_BYTES);
         lents[i].byte = guarded(BYTE_BYTES);
-        lents[i].missing = guarded(MISSING_BYTES);
+        lents[i].missing = guarded(NUMBER_BYTES);
+        lents[i].mask = guarded(NUMBER_BYTES);
     }
     fill_memory();
     (void)signal(SIGSEGV, crashed);
@@ -206,6 +215,16 @@ void pair_poke(uint32_t word, uint32_t value)
 {
     *(lents[0].record - OTTO_RECORD_WORDS + word) = value;
     *(lents[1].record - OTTO_RECORD_WORDS + word) = value;
+}
+
+uint32_t pair_flags(void)
+{
+    uint32_t flags = 0;
+
+    for (uint32_t v = 0; v < VOICES; v++) {
+        flags |= (pair_word(v * VOICE_WORDS + VOICE_CR) >> 7 & 1) << v;
+    }
+    return flags;
 }
 
 uint32_t pair_reset(size_t words)
@@ -285,6 +304,53 @@ uint32_t pair_frame(size_t words, size_t memory_words, size_t output_values)
     count_few(pair_word(WORD_ACTV), answers[0]);
     count_missed(lents[1].missing[-1], answers[0]);
     return compare("frame", answers);
+}
+
+/* Whether the record would be taken if its mask were what its control registers
+   say. */
+static int is_untrue_alone(void)
+{
+    uint32_t record[OTTO_RECORD_WORDS];
+    uint32_t mask;
+
+    memcpy(record, lents[1].record - OTTO_RECORD_WORDS, sizeof record);
+    record[WORD_WAITING] = pair_flags();
+    return engines[1]->waiting(record, OTTO_RECORD_WORDS, &mask) == OTTO_DONE;
+}
+
+static void count_masks(uint32_t mask, uint32_t answer)
+{
+    pair_counts.some_wait += answer == OTTO_DONE && mask != 0;
+    pair_counts.none_wait += answer == OTTO_DONE && mask == 0;
+    pair_counts.long_or_short += answer == OTTO_RECORD_LENGTH;
+    pair_counts.invalid += answer == OTTO_RECORD_INVALID;
+    pair_counts.untrue += answer == OTTO_RECORD_INVALID && is_untrue_alone();
+}
+
+/* The record is only read: it is as it was, on either side. A mask that is
+   answered is the record's word. */
+uint32_t pair_waiting(size_t words)
+{
+    uint8_t before[RECORD_BYTES];
+    uint32_t answers[2];
+
+    memcpy(before, (const uint8_t *)lents[0].edge - RECORD_BYTES, RECORD_BYTES);
+    for (int i = 0; i < 2; i++) {
+        const uint32_t *record = lents[i].record - words;
+
+        lents[i].mask[-1] = UNSET;
+        answers[i] = engines[i]->waiting(record, words, lents[i].mask - 1);
+    }
+    (void)compare("waiting", answers);
+    if (unlike(lents[0].edge, before + RECORD_BYTES, RECORD_BYTES)) {
+        stop("waiting", "the record is not as it was");
+    }
+    if (answers[0] == OTTO_DONE &&
+        lents[0].mask[-1] != pair_word(OTTO_WAIT_MASK)) {
+        stop("waiting", "the mask is not the record's word");
+    }
+    count_masks(lents[0].mask[-1], answers[0]);
+    return answers[0];
 }
 
 void pair_compress(int16_t sample)

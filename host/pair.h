@@ -28,6 +28,11 @@ struct pair_counts {
                                           refused for that; of 5, done */
     unsigned long missed[MISSED]; /* frames that were done, by how many words
                                      were missing; the last, so many or more */
+    unsigned long some_wait;     /* masks that were answered, not 0 */
+    unsigned long none_wait;     /* and 0 */
+    unsigned long long_or_short; /* masks refused for the record's length, */
+    unsigned long invalid;       /* for a word of it, */
+    unsigned long untrue;        /* and of these for the mask alone */
     unsigned long codes;    /* samples compressed and codes expanded */
 };
 
@@ -45,6 +50,9 @@ void pair_start(uint64_t seed, uint32_t behind);
 uint32_t pair_word(uint32_t word);
 void pair_poke(uint32_t word, uint32_t value);
 
+/* What the control registers say that the mask of waiting voices is. */
+uint32_t pair_flags(void);
+
 /* The calls; words is the length lent, right-aligned on the same record. The
    answers are given back. */
 uint32_t pair_reset(size_t words);
@@ -52,6 +60,7 @@ uint32_t pair_write(size_t words, uint32_t address, uint8_t value);
 uint32_t pair_read(size_t words, uint32_t address);
 uint32_t pair_set_pot(size_t words, uint32_t pot);
 uint32_t pair_frame(size_t words, size_t memory_words, size_t output_values);
+uint32_t pair_waiting(size_t words);
 void pair_compress(int16_t sample);
 void pair_expand(uint8_t code);
 

@@ -47,7 +47,8 @@ static const uint32_t shared_kept[RECORD_WORDS - WORD_PAGE] = {
     0x007FFFFFu, 0x007FFFFFu, /* channel 2 */
     0x007FFFFFu, 0x007FFFFFu, /* channel 3 */
     0x007FFFFFu, 0x007FFFFFu, /* channel 4 */
-    0x007FFFFFu, 0x007FFFFFu  /* channel 5 */
+    0x007FFFFFu, 0x007FFFFFu, /* channel 5 */
+    0xFFFFFFFFu  /* waiting voices; one value only, see record_is_valid */
 };
 
 #define FILTER_BITS  18u
@@ -57,6 +58,29 @@ static uint32_t kept_bits(uint32_t word)
 {
     return word < WORD_PAGE ? voice_kept[word % VOICE_WORDS]
                             : shared_kept[word - WORD_PAGE];
+}
+
+/* The voices that wait, by the control registers alone: each of the 32 whose
+   IRQ bit is set, active or not, adds 2 to the power of its number. */
+static uint32_t waiting_voices(const uint32_t *record)
+{
+    uint64_t weight = 1;
+    uint64_t mask = 0;
+    uint32_t voice;
+
+    for (voice = 0; voice < VOICES; voice++) {
+        if ((record[voice * VOICE_WORDS + VOICE_CR] & CR_IRQ) != 0) {
+            mask += weight;
+        }
+        weight *= 2;
+    }
+    return (uint32_t)mask;
+}
+
+/* The mask is made anew after whatever may have changed a flag. */
+static void remake_mask(uint32_t *record)
+{
+    record[WORD_WAITING] = waiting_voices(record);
 }
 
 static int record_is_valid(const uint32_t *record)
@@ -69,7 +93,11 @@ static int record_is_valid(const uint32_t *record)
         }
     }
     /* The interrupt vector is a voice number or the sign for none. */
-    return record[WORD_IRQV] < VOICES || record[WORD_IRQV] == NO_INTERRUPT;
+    if (record[WORD_IRQV] >= VOICES && record[WORD_IRQV] != NO_INTERRUPT) {
+        return 0;
+    }
+    /* The mask says what the control registers say. */
+    return record[WORD_WAITING] == waiting_voices(record);
 }
 
 /* Answers 1 and 2, which come first in every operation but reset. */
@@ -209,7 +237,8 @@ static uint32_t word_of_upper(uint32_t page, uint32_t number)
     return (page - 32) * VOICE_WORDS + words[number];
 }
 
-/* The record word that a page and a register number stand for. */
+/* The record word that a page and a register number stand for. None stands for
+   the mask of waiting voices. */
 static uint32_t word_of_register(uint32_t page, uint32_t number)
 {
     /* The same three on every page. */
@@ -275,6 +304,7 @@ uint32_t reference_write(uint32_t *record, size_t words, uint32_t address,
     word = word_of_register(record[WORD_PAGE], number);
     if (word != WORD_PAR && word != WORD_IRQV && word != NO_WORD) {
         record[word] = latch & kept_bits(word);
+        remake_mask(record); /* the word may be a control register */
     }
     record[WORD_WRITE_LATCH] = 0;
     return ANSWER_DONE;
@@ -300,6 +330,7 @@ static void take_register(uint32_t *record, uint32_t word)
     if (word == WORD_IRQV && record[WORD_IRQV] < VOICES) {
         record[record[WORD_IRQV] * VOICE_WORDS + VOICE_CR] &= ~CR_IRQ;
         record[WORD_IRQV] = NO_INTERRUPT;
+        remake_mask(record);
     }
 }
 
@@ -665,6 +696,7 @@ uint32_t reference_frame(uint32_t *record, size_t words,
     for (number = 0; number <= record[WORD_ACTV]; number++) {
         run_voice(record, number, memory, memory_words);
     }
+    remake_mask(record); /* loop events may have set flags */
 
     /* The sums go out, held to 20 bits, and start again from 0. */
     for (place = 0; place < OUTPUT_VALUES; place++) {
@@ -673,6 +705,21 @@ uint32_t reference_frame(uint32_t *record, size_t words,
     }
 
     record[WORD_SLOW] = (record[WORD_SLOW] + 1) % 8;
+    return ANSWER_DONE;
+}
+
+/* ==== the waiting voices ================================================= */
+
+uint32_t reference_waiting(const uint32_t *record, size_t words,
+                           uint32_t *mask)
+{
+    uint32_t answer = ask_record(record, words);
+
+    *mask = 0;
+    if (answer != ANSWER_DONE) {
+        return answer;
+    }
+    *mask = record[WORD_WAITING];
     return ANSWER_DONE;
 }
 

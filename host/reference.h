@@ -1,5 +1,5 @@
 /*
- * A plain reference model of the sound chip: the eight public operations over
+ * A plain reference model of the sound chip: the nine public operations over
  * what the caller lends, and the few arithmetic rules that are worth checking
  * by themselves. Bringing in a WAVE file is in reference_wave.c, all else in
  * reference.c.
@@ -30,7 +30,7 @@
 
 /* ---- limits ------------------------------------------------------------- */
 
-#define RECORD_WORDS      663u
+#define RECORD_WORDS      664u
 #define VOICES            32u
 #define VOICE_WORDS       20u
 #define OUTPUT_VALUES     12u
@@ -80,6 +80,7 @@
 #define WORD_WRITE_LATCH 649u
 #define WORD_READ_LATCH  650u
 #define WORD_SUMS        651u /* 0L, 0R, 1L, 1R .. 5L, 5R */
+#define WORD_WAITING     663u /* bit v is the IRQ bit of voice v */
 
 /* ---- bits of CR ---------------------------------------------------------- */
 
@@ -118,7 +119,7 @@
 #define LOOP_START    8u
 #define LOOP_END      12u
 
-/* ---- the eight public operations ---------------------------------------- */
+/* ---- the nine public operations ----------------------------------------- */
 
 uint32_t reference_reset(uint32_t *record, size_t words);
 uint32_t reference_write(uint32_t *record, size_t words, uint32_t address,
@@ -130,6 +131,8 @@ uint32_t reference_frame(uint32_t *record, size_t words,
                          const uint16_t *memory, size_t memory_words,
                          int32_t *output, size_t output_values,
                          uint32_t *missing);
+uint32_t reference_waiting(const uint32_t *record, size_t words,
+                           uint32_t *mask);
 uint32_t reference_import(const uint8_t *file, size_t file_bytes,
                           uint16_t *memory, size_t memory_words, size_t word,
                           uint32_t *start, uint32_t *end, uint32_t *loop,

@@ -9,9 +9,13 @@
  * It is built by more than one compiler: ENGINE is the table of calls that a
  * build gives, NAME what it is called.
  *
+ * It is for x86-64 alone: the flags of sixteen voices are taken by one of its
+ * own instructions.
+ *
  * Shifting a negative number right is left to the compiler by the language;
  * every compiler that this is for keeps the sign, which rounds down.
  */
+#include <emmintrin.h>
 #include <string.h>
 
 #include "reference.h"
@@ -33,7 +37,7 @@ static const uint32_t shared_stray[RECORD_WORDS - WORD_PAGE] = {
     ~0x7Fu,     ~0xFFu,     ~0x3FFu,    ~0x1Fu,     ~0x1Fu,     ~0x7Fu,
     ~0x7Fu,     ~0x7Fu,     ~0x7u,      0u,         0u,         ~0x7FFFFFu,
     ~0x7FFFFFu, ~0x7FFFFFu, ~0x7FFFFFu, ~0x7FFFFFu, ~0x7FFFFFu, ~0x7FFFFFu,
-    ~0x7FFFFFu, ~0x7FFFFFu, ~0x7FFFFFu, ~0x7FFFFFu, ~0x7FFFFFu
+    ~0x7FFFFFu, ~0x7FFFFFu, ~0x7FFFFFu, ~0x7FFFFFu, ~0x7FFFFFu, 0u
 };
 
 typedef uint32_t four __attribute__((vector_size(16)));
@@ -61,16 +65,70 @@ static UNFOLD four gather(const uint32_t *words)
            eight(words + 16 * VOICE_WORDS) | eight(words + 24 * VOICE_WORDS);
 }
 
+/* Of some voices the bits of their first four words, and beside each other the
+   low bytes of their control registers, which are the first of these. */
+struct firsts {
+    four bits;
+    __m128i lows;
+};
+
+static UNFOLD struct firsts two_firsts(const uint32_t *words)
+{
+    four one = four_at(words);
+    four other = four_at(words + VOICE_WORDS);
+
+    return (struct firsts){ one | other,
+                            _mm_unpacklo_epi8((__m128i)one, (__m128i)other) };
+}
+
+static UNFOLD struct firsts four_firsts(const uint32_t *words)
+{
+    struct firsts one = two_firsts(words);
+    struct firsts other = two_firsts(words + 2 * VOICE_WORDS);
+
+    return (struct firsts){ one.bits | other.bits,
+                            _mm_unpacklo_epi16(one.lows, other.lows) };
+}
+
+static UNFOLD struct firsts eight_firsts(const uint32_t *words)
+{
+    struct firsts one = four_firsts(words);
+    struct firsts other = four_firsts(words + 4 * VOICE_WORDS);
+
+    return (struct firsts){ one.bits | other.bits,
+                            _mm_unpacklo_epi32(one.lows, other.lows) };
+}
+
+static UNFOLD struct firsts sixteen_firsts(const uint32_t *words)
+{
+    struct firsts one = eight_firsts(words);
+    struct firsts other = eight_firsts(words + 8 * VOICE_WORDS);
+
+    return (struct firsts){ one.bits | other.bits,
+                            _mm_unpacklo_epi64(one.lows, other.lows) };
+}
+
+/* The same of all, but in place of the bytes their highest bits, the flags. */
+static UNFOLD four gather_firsts(const uint32_t *record, uint32_t *flags)
+{
+    struct firsts low = sixteen_firsts(record);
+    struct firsts high = sixteen_firsts(record + 16 * VOICE_WORDS);
+
+    *flags = (uint32_t)_mm_movemask_epi8(low.lows) |
+             (uint32_t)_mm_movemask_epi8(high.lows) << 16;
+    return low.bits | high.bits;
+}
+
 /* A word keeps the same bits in every voice, so all voices' bits are gathered
    and held against the mask once; so are those of the twelve channel sums. */
-static UNFOLD four stray_bits(const uint32_t *record)
+static UNFOLD four stray_bits(const uint32_t *record, uint32_t *flags)
 {
     const uint32_t *shared = record + WORD_PAGE;
     const uint32_t *sums = record + WORD_SUMS;
-    four stray = (four_at(sums) | four_at(sums + 4) | four_at(sums + 8)) &
-                 four_at(shared_stray + WORD_SUMS - WORD_PAGE);
+    four stray = gather_firsts(record, flags) & four_at(voice_stray);
 
-    stray |= gather(record) & four_at(voice_stray);
+    stray |= (four_at(sums) | four_at(sums + 4) | four_at(sums + 8)) &
+             four_at(shared_stray + WORD_SUMS - WORD_PAGE);
     stray |= gather(record + 4) & four_at(voice_stray + 4);
     stray |= gather(record + 8) & four_at(voice_stray + 8);
     stray |= gather(record + 12) & four_at(voice_stray + 12);
@@ -83,14 +141,16 @@ static UNFOLD four stray_bits(const uint32_t *record)
 static inline uint32_t check(const uint32_t *record, size_t words)
 {
     four stray;
+    uint32_t flags;
     uint32_t vector;
 
     if (words != RECORD_WORDS) {
         return ANSWER_RECORD_LENGTH;
     }
-    stray = stray_bits(record);
+    stray = stray_bits(record, &flags);
+    flags ^= record[WORD_WAITING];
     vector = record[WORD_IRQV];
-    if ((stray[0] | stray[1] | stray[2] | stray[3]) != 0 ||
+    if ((stray[0] | stray[1] | stray[2] | stray[3] | flags) != 0 ||
         (vector >= VOICES && vector != NO_INTERRUPT)) {
         return ANSWER_RECORD_INVALID;
     }
@@ -115,7 +175,7 @@ static uint32_t reset(uint32_t *record, size_t words)
     return ANSWER_DONE;
 }
 
-/* The word behind a register, or RECORD_WORDS where there is none. */
+/* The word behind a register, or WORD_WAITING, which is behind none. */
 static uint32_t word_of(uint32_t page, uint32_t number)
 {
     if (number >= 13) {
@@ -132,7 +192,14 @@ static uint32_t word_of(uint32_t page, uint32_t number)
                : number < 10 ? first + 10 + number
                              : WORD_W_ST - 10 + number;
     }
-    return WORD_SUMS + number; /* number 12 is RECORD_WORDS */
+    return WORD_SUMS + number; /* number 12 is WORD_WAITING */
+}
+
+/* The voice's bit of the mask becomes what its control register says. */
+static UNFOLD void flag(uint32_t *record, uint32_t v, uint32_t cr)
+{
+    record[WORD_WAITING] =
+        (record[WORD_WAITING] & ~(1u << v)) | (cr >> 7 & 1) << v;
 }
 
 static uint32_t write(uint32_t *record, size_t words, uint32_t address,
@@ -158,7 +225,10 @@ static uint32_t write(uint32_t *record, size_t words, uint32_t address,
     word = word_of(record[WORD_PAGE], address >> 2);
     if (word < WORD_PAGE) {
         record[word] = latch & ~voice_stray[word % VOICE_WORDS];
-    } else if (word < RECORD_WORDS && word != WORD_PAR && word != WORD_IRQV) {
+        if (address == 3) {
+            flag(record, record[WORD_PAGE] % VOICES, latch);
+        }
+    } else if (word < WORD_WAITING && word != WORD_PAR && word != WORD_IRQV) {
         record[word] = latch & ~shared_stray[word - WORD_PAGE];
     }
     record[WORD_WRITE_LATCH] = 0;
@@ -172,6 +242,7 @@ static void open_register(uint32_t *record, uint32_t word)
         record[WORD_PAR] = 1023;
     } else if (word == WORD_IRQV && record[WORD_IRQV] < VOICES) {
         record[record[WORD_IRQV] * VOICE_WORDS] &= ~CR_IRQ;
+        record[WORD_WAITING] &= ~(1u << record[WORD_IRQV]);
         record[WORD_IRQV] = NO_INTERRUPT;
     }
 }
@@ -472,8 +543,11 @@ static UNFOLD void turn(uint32_t *record, uint32_t v, uint32_t slow,
     if (runs) {
         run(record, voice, cr, slow, o);
     }
-    if ((voice[VOICE_CR] & CR_IRQ) != 0 && record[WORD_IRQV] == NO_INTERRUPT) {
-        record[WORD_IRQV] = v;
+    if ((voice[VOICE_CR] & CR_IRQ) != 0) {
+        record[WORD_WAITING] |= 1u << v;
+        if (record[WORD_IRQV] == NO_INTERRUPT) {
+            record[WORD_IRQV] = v;
+        }
     }
 }
 
@@ -521,6 +595,20 @@ static uint32_t frame(uint32_t *record, size_t words, const uint16_t *memory,
     }
     close_frame(record, output);
     *missing = missed;
+    return ANSWER_DONE;
+}
+
+/* ==== the waiting voices ================================================== */
+
+static uint32_t waiting(const uint32_t *record, size_t words, uint32_t *mask)
+{
+    uint32_t answer = check(record, words);
+
+    *mask = 0;
+    if (answer != ANSWER_DONE) {
+        return answer;
+    }
+    *mask = record[WORD_WAITING];
     return ANSWER_DONE;
 }
 
@@ -719,5 +807,5 @@ static uint32_t import(const uint8_t *file, size_t file_bytes,
     return ANSWER_DONE;
 }
 
-const struct engine ENGINE = { NAME,  reset,  write,    read,  set_pot,
-                               frame, import, compress, expand };
+const struct engine ENGINE = { NAME,    reset,   write,  read,     set_pot,
+                               frame,   waiting, import, compress, expand };

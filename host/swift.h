@@ -1,5 +1,5 @@
 /*
- * The eight operations again, in C written for speed: the measure that the
+ * The nine operations again, in C written for speed: the measure that the
  * library's instructions are held to. swift.c is built in several ways, and
  * the least of their counts is the measure. Each build is an engine.
  */

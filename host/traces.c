@@ -14,8 +14,10 @@
 
 static uint32_t kept[WORDS]; /* the bits of each word that a record may have */
 
-static const size_t lengths[] = { 0,   1,   12,  20,  640, 641, 651,
-                                  661, 662, 664, 665, 683, 704 };
+static const size_t lengths[] = {
+    0,         1,         12,        20,        640,         641,        651,
+    WORDS - 2, WORDS - 1, WORDS + 1, WORDS + 2, WORDS + 20u, MOST_RECORD
+};
 
 static const size_t memory_lengths[] = {
     0,       1,       2,       3,       100,     2048,    65536,
@@ -24,6 +26,33 @@ static const size_t memory_lengths[] = {
 };
 
 static const size_t output_lengths[] = { 0, 1, 11, 13, 24, 32 };
+
+/* ==== words put by the host =============================================== */
+
+/* Makes the mask of waiting voices what the control registers say. */
+static void tell_mask(void)
+{
+    pair_poke(WORD_WAITING, pair_flags());
+}
+
+static int is_control(uint32_t word)
+{
+    return word < WORD_PAGE && word % VOICE_WORDS == VOICE_CR;
+}
+
+/* With a control register the mask goes along, so that it stays true. */
+static void poke_true(uint32_t word, uint32_t value)
+{
+    pair_poke(word, value);
+    if (is_control(word)) {
+        tell_mask();
+    }
+}
+
+static void poke_kept(uint32_t word, uint32_t value)
+{
+    poke_true(word, value & kept[word]);
+}
 
 /* ==== values ============================================================== */
 
@@ -34,12 +63,12 @@ void trace_prepare(void)
         uint32_t old = pair_word(word);
 
         for (uint32_t bit = 0; bit < 32; bit++) {
-            pair_poke(word, 1u << bit);
+            poke_true(word, 1u << bit);
             if (pair_set_pot(WORDS, POT_LIMIT) == OTTO_DONE) {
                 kept[word] |= 1u << bit;
             }
         }
-        pair_poke(word, old);
+        poke_true(word, old);
     }
 }
 
@@ -66,6 +95,9 @@ static uint32_t valid_word(uint32_t word)
     if (word == WORD_IRQV) {
         return random_once_in(2) ? NO_INTERRUPT : random_below(VOICES);
     }
+    if (word == WORD_WAITING) {
+        return pair_flags();
+    }
     return any_word() & kept[word];
 }
 
@@ -87,11 +119,6 @@ static uint32_t close_to(uint32_t address)
 
 /* ==== voices ============================================================== */
 
-static void poke_kept(uint32_t word, uint32_t value)
-{
-    pair_poke(word, value & kept[word]);
-}
-
 /* A voice at work: most of them run, close to their loop points. */
 static void set_voice(uint32_t v)
 {
@@ -100,7 +127,7 @@ static void set_voice(uint32_t v)
     uint32_t end = random_once_in(3) ? any_word() : close_to(start);
 
     for (uint32_t word = first; word < first + VOICE_WORDS; word++) {
-        pair_poke(word, valid_word(word));
+        poke_true(word, valid_word(word));
     }
     if (!random_once_in(5)) {
         poke_kept(first + VOICE_CR, random_word() & ~(CR_STP0 | CR_STP1));
@@ -117,6 +144,16 @@ static void set_all_voices(void)
 {
     for (uint32_t v = 0; v < VOICES; v++) {
         set_voice(v);
+    }
+}
+
+/* The flags of all voices: CR_IRQ, or 0 for none. */
+static void set_flags(uint32_t flag)
+{
+    for (uint32_t v = 0; v < VOICES; v++) {
+        uint32_t word = v * VOICE_WORDS + VOICE_CR;
+
+        poke_true(word, (pair_word(word) & ~CR_IRQ) | flag);
     }
 }
 
@@ -140,6 +177,7 @@ static void each_call(size_t words)
     (void)pair_set_pot(words, random_below(1030));
     (void)pair_frame(words, memory_lengths[random_below(COUNT(memory_lengths))],
                      random_once_in(4) ? 11 : OTTO_OUTPUT_VALUES);
+    (void)pair_waiting(words);
 }
 
 static void walk_lengths(void)
@@ -174,7 +212,8 @@ static void walk_limits(void)
     }
 }
 
-/* Each bit that a word does not keep, and each vector that is none. */
+/* Each bit that a word does not keep, of the mask each the other way, and each
+   vector that is none. */
 static void walk_damage(void)
 {
     for (uint32_t word = 0; word < WORDS; word++) {
@@ -182,7 +221,7 @@ static void walk_damage(void)
 
         for (uint32_t bit = 0; bit < 32; bit++) {
             if ((kept[word] >> bit) % 2 == 0) {
-                pair_poke(word, old | 1u << bit);
+                pair_poke(word, old ^ 1u << bit);
                 each_call(WORDS);
             }
         }
@@ -193,6 +232,66 @@ static void walk_damage(void)
         each_call(WORDS);
     }
     pair_poke(WORD_IRQV, NO_INTERRUPT);
+}
+
+/* A mask put by the host: where it is not what the control registers say, no
+   call is done. */
+static void try_mask(uint32_t mask)
+{
+    pair_poke(WORD_WAITING, mask);
+    each_call(WORDS);
+    tell_mask();
+}
+
+/* A flag the other way, and the mask as it was. */
+static void try_flag(uint32_t v)
+{
+    uint32_t word = v * VOICE_WORDS + VOICE_CR;
+    uint32_t old = pair_word(word);
+
+    pair_poke(word, old ^ CR_IRQ);
+    each_call(WORDS);
+    pair_poke(word, old);
+}
+
+/* The flags of the active voices alone. */
+static uint32_t active_flags(void)
+{
+    return pair_flags() & ((2u << pair_word(WORD_ACTV)) - 1u);
+}
+
+/* With each count of voices the mask as it is, each bit of it and each flag the
+   other way, the flags of the active voices alone, those of the voices next to
+   them, and none and all. */
+static void walk_masks(void)
+{
+    for (uint32_t last = 0; last < VOICES; last++) {
+        set_all_voices();
+        pair_poke(WORD_ACTV, last);
+        (void)pair_waiting(WORDS);
+        for (uint32_t v = 0; v < VOICES; v++) {
+            try_mask(pair_flags() ^ 1u << v);
+            try_flag(v);
+        }
+        try_mask(active_flags());
+        try_mask(pair_flags() << 1);
+        try_mask(pair_flags() << 1 | pair_flags() >> 31);
+        try_mask(pair_flags() >> 1);
+        try_mask(0);
+        try_mask(0xFFFFFFFFu);
+    }
+}
+
+/* Each address, read while every voice waits, with each vector. */
+static void walk_vectors(void)
+{
+    for (uint32_t v = 0; v <= VOICES; v++) {
+        for (uint32_t address = 0; address < 64; address++) {
+            set_flags(CR_IRQ);
+            pair_poke(WORD_IRQV, v < VOICES ? v : NO_INTERRUPT);
+            (void)pair_read(WORDS, address);
+        }
+    }
 }
 
 /* Each count of voices, with memory and output that are refused and that are
@@ -323,6 +422,8 @@ void trace_walks(void)
         walk_lengths();
         walk_limits();
         walk_damage();
+        walk_masks();
+        walk_vectors();
         walk_voices();
         walk_registers();
         walk_loops();
@@ -365,16 +466,18 @@ static void read_register(uint32_t number)
     }
 }
 
-/* Ten byte calls, in order or not. */
+/* Ten byte calls, in order or not, and who waits after them. */
 static void bytes(void)
 {
     write_register(random_once_in(4) ? 15 : random_below(16), any_word());
     read_register(random_below(16));
     (void)pair_write(any_length(), any_address(), (uint8_t)any_word());
     (void)pair_read(any_length(), any_address());
+    (void)pair_waiting(any_length());
 }
 
-/* A word put by the host, mostly one that the record may not have. */
+/* A word put by the host, mostly one that the record may not have. Where it may
+   the calls are done, and may have changed flags. */
 static void damage(void)
 {
     uint32_t word = random_below(WORDS);
@@ -383,6 +486,32 @@ static void damage(void)
     pair_poke(word, any_word());
     each_call(any_length());
     pair_poke(word, old);
+    tell_mask();
+}
+
+/* A mask or a flag put by the host, mostly not what the other says. */
+static void damage_mask(void)
+{
+    switch (random_below(8)) {
+    case 0:
+        try_mask(active_flags());
+        break;
+    case 1:
+        try_mask(pair_flags() << 1);
+        break;
+    case 2:
+        try_mask(pair_flags() >> 1);
+        break;
+    case 3:
+        try_mask(any_word());
+        break;
+    case 4:
+    case 5:
+        try_flag(random_below(VOICES));
+        break;
+    default:
+        try_mask(pair_flags() ^ 1u << random_below(VOICES));
+    }
 }
 
 /* As many voices as the calls before left active, or enough for a frame. */
@@ -411,14 +540,36 @@ static void frames(uint32_t count)
     }
 }
 
+/* A host that asks who waits, and takes what the vector has after each frame;
+   now and then from no flag on. */
+static void take_interrupts(void)
+{
+    enough_voices();
+    if (random_once_in(4)) {
+        set_flags(0);
+    }
+    for (uint32_t i = random_below(8); i > 0; i--) {
+        (void)pair_waiting(WORDS);
+        frames(1);
+        read_register(14);
+    }
+    (void)pair_waiting(WORDS);
+}
+
 static void other_calls(void)
 {
     uint32_t word = random_below(WORDS);
 
     (void)pair_set_pot(any_length(), random_below(1030));
-    pair_poke(word, valid_word(word));
+    poke_true(word, valid_word(word));
     if (random_once_in(20)) {
         damage();
+    }
+    if (random_once_in(20)) {
+        damage_mask();
+    }
+    if (random_once_in(20)) {
+        take_interrupts();
     }
     if (random_once_in(20)) {
         (void)pair_frame(any_length(), memory_words,

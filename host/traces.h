@@ -11,8 +11,9 @@
 void trace_prepare(void);
 
 /* Everything that can be gone through one by one: codes, lengths, limits,
-   damage to each word, each count of voices, each address on each page, loop
-   points at their edges, the ends of the banks. */
+   damage to each word, masks and flags that are not what the others say, each
+   count of voices, each address on each page, loop points at their edges, the
+   ends of the banks. */
 void trace_walks(void);
 
 /* Random calls; the seed fixes them all. */

@@ -1,16 +1,18 @@
 /*
  * libotto: the voice engine of the ES5506, for hosts in C and C++.
  *
- * The engine owns nothing. The host lends a machine record of 663 words to
+ * The engine owns nothing. The host lends a machine record of 664 words to
  * every call on a machine, to a frame also sample memory, an output and a
- * place for a number, and to a read a place for a byte; to an import, which
- * needs no record, the bytes of a file, sample memory and places for four
- * numbers. What a call does is fixed by what is lent and nothing else. There
- * is no global state, no allocation and no lock, and no file is opened, so any
- * number of records may be in use, and two threads may call at once if neither
- * lends a buffer that the other one's call may change. A frame only reads
- * sample memory: threads may share it, but not while one of them imports into
- * it.
+ * place for a number, to a read a place for a byte, and to otto_waiting a
+ * place for a mask; to an import, which needs no record, the bytes of a file,
+ * sample memory and places for four numbers. What a call does is fixed by what
+ * is lent and nothing else. There is no global state, no allocation and no
+ * lock, and no file is opened, so any number of records may be in use, and two
+ * threads may call at once if neither lends a buffer that the other one's call
+ * may change. A frame only reads sample memory: threads may share it, but not
+ * while one of them imports into it. otto_waiting only reads the record:
+ * threads may ask about one record at once, but not while another call on it
+ * runs.
  *
  * Every pointer must be aligned for its type, must point at as many values as
  * the length after it says, or at one where no length comes after it, and must
@@ -21,7 +23,8 @@
  * It asks in the order in which its refusals are listed below, and a refused
  * call changes no word of the record or of sample memory and no value of the
  * output; a refused otto_read sets its byte to 0, a refused otto_frame its
- * number of missing words, and a refused otto_import its four numbers.
+ * number of missing words, a refused otto_waiting its mask, and a refused
+ * otto_import its four numbers.
  */
 #ifndef OTTO_H
 #define OTTO_H
@@ -35,7 +38,9 @@ extern "C" {
 
 /* ---- sizes --------------------------------------------------------------- */
 
-#define OTTO_RECORD_WORDS      663u
+#define OTTO_RECORD_WORDS      664u
+#define OTTO_WAIT_MASK         663u     /* the record's word that otto_waiting
+                                           answers */
 #define OTTO_OUTPUT_VALUES     12u      /* channels 0 to 5, left then right */
 #define OTTO_MOST_MEMORY_WORDS 8388608u /* four banks of 2,097,152 words */
 #define OTTO_MOST_FILE_BYTES   65536u   /* of a WAVE file */
@@ -43,7 +48,7 @@ extern "C" {
 /* ---- answers ------------------------------------------------------------- */
 
 #define OTTO_DONE           0u
-#define OTTO_RECORD_LENGTH  1u /* the record is not 663 words */
+#define OTTO_RECORD_LENGTH  1u /* the record is not 664 words */
 #define OTTO_RECORD_INVALID 2u /* a word has a bit or value it may not have */
 #define OTTO_ADDRESS        3u /* the byte address is above 63 */
 #define OTTO_POT            4u /* the pot result is above 1023 */
@@ -125,6 +130,29 @@ uint32_t otto_set_pot(uint32_t *record, size_t words, uint32_t pot);
 uint32_t otto_frame(uint32_t *record, size_t words, const uint16_t *memory,
                     size_t memory_words, int32_t *output,
                     size_t output_values, uint32_t *missing);
+
+/*
+ * Which voices wait, as a mask: bit v is the IRQ bit of voice v, bit 7 of its
+ * CR. All 32 voices count, active or not. *mask is always set, to 0 where the
+ * call is refused.
+ *
+ * The call changes nothing and takes nothing, however often it is made. An
+ * interrupt is taken by reading byte 0 of the vector, register 14, which names
+ * one voice at a time: that clears the voice's bit in CR and in the mask. After
+ * a frame that found the vector free, it names the lowest active voice of the
+ * mask, if there is one. A voice comes to wait by a loop event while IRQE is
+ * set in its CR, or by a CR that the host writes with IRQ set; a CR written
+ * without IRQ takes it out of the mask.
+ *
+ * The mask is a word of the record, and every call keeps it true; a reset makes
+ * it 0. Between calls a host may look at record[OTTO_WAIT_MASK] itself; no
+ * register shows it. A host that changes the word of a CR in the record itself
+ * must keep the mask true: where a bit of it is not that voice's IRQ bit, every
+ * call on the record but otto_reset is refused with 2.
+ *
+ * Refusals: 1, 2.
+ */
+uint32_t otto_waiting(const uint32_t *record, size_t words, uint32_t *mask);
 
 /* ---- compressed samples -------------------------------------------------- */
 
