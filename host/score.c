@@ -16,7 +16,8 @@
 
 #include "reference.h"
 
-enum kind { RESET, WRITE, READ, POT, FRAME, NO_CALL };
+/* From NO_CALL to LAST_KIND, a kind is that of no call. */
+enum kind { RESET, WRITE, READ, POT, FRAME, WAITING, NO_CALL, LAST_KIND = 255 };
 
 #define COMMAND_BYTES 6u
 #define MEMORY_WORDS  4096u
@@ -187,6 +188,11 @@ static void command(enum kind kind, uint32_t number, uint32_t byte)
     put_number(byte, 1);
 }
 
+static void who_waits(void)
+{
+    command(WAITING, 0, 0);
+}
+
 static void frames(uint32_t count)
 {
     while (count > 0) {
@@ -283,13 +289,16 @@ static void play_refused(void)
     command(READ, 4 * IRQV, 0);
     command(POT, 300, 0);
     command(FRAME, 0, 0);
+    who_waits();
     command(RESET, 0, 0);
+    who_waits();
     command(FRAME, 0, 0);
     command(READ, 64, 0);
     command(WRITE, 64, 1);
     command(WRITE, 0xFFFFFFFFu, 1);
     command(POT, 1024, 0);
     command(NO_CALL, 0, 0);
+    command(LAST_KIND, 0xFFFFFFFFu, 255);
 }
 
 /* Every register of each kind of page takes a value of its own and then ones,
@@ -367,7 +376,9 @@ static void play_voices(void)
     }
     for (round = 0; round < 50; round++) {
         frames(4);
+        who_waits();
         get_register(IRQV);
+        who_waits();
     }
 }
 
@@ -442,6 +453,94 @@ static void play_end(void)
     frames(1);
 }
 
+/* Every voice gets its flag on one of its pages and loses it on the other, the
+   odd ones the other way round. Ten voices are active. */
+static void play_flags(void)
+{
+    uint32_t voice;
+
+    turn_to(0);
+    put_register(ACTV, 9);
+    for (voice = 0; voice < VOICES; voice++) {
+        set_control(voice % 2 * HIGH_PAGES + voice, CR_STP0 | CR_IRQ);
+        who_waits();
+    }
+    for (voice = VOICES; voice-- > 0;) {
+        set_control((1 - voice % 2) * HIGH_PAGES + voice, CR_STP0);
+        who_waits();
+    }
+}
+
+/* What leaves the flags alone: bytes 0 to 2 of a control register, another
+   register, the place after the sums, and the pot. */
+static void play_no_flags(void)
+{
+    set_control(12, 0xFFFFu);
+    who_waits();
+    command(WRITE, 4 * VOICE_CR, 0);
+    command(WRITE, 4 * VOICE_CR + 1, 0);
+    command(WRITE, 4 * VOICE_CR + 2, 0);
+    who_waits();
+    put_register(VOICE_LVOL, 0);
+    turn_to(SUM_PAGES);
+    put_register(OUTPUT_VALUES, 0xFFFFFFFFu);
+    get_register(OUTPUT_VALUES);
+    put_register(OUTPUT_VALUES, 0);
+    command(POT, 128, 0);
+    who_waits();
+    set_control(HIGH_PAGES + 12, 0xFF7Fu);
+    who_waits();
+}
+
+/* Two voices come into the vector, one after the other; a third, which is not
+   active, waits until its control register is written. */
+static void play_turns(void)
+{
+    uint32_t round;
+
+    set_control(9, CR_STP0 | CR_IRQ);
+    set_control(HIGH_PAGES + 10, CR_STP0 | CR_IRQ);
+    set_control(2, CR_STP1 | CR_IRQ);
+    who_waits();
+    for (round = 0; round < 3; round++) {
+        frames(1);
+        who_waits();
+        get_register(IRQV);
+        who_waits();
+    }
+    set_control(10, CR_STP0);
+    who_waits();
+}
+
+/* Three voices stop at their loop points; the second may not interrupt. */
+static void play_events(void)
+{
+    uint32_t round;
+
+    set_voice(3, voices[0]);
+    set_voice(4, voices[0]);
+    set_control(4, voices[0][VOICE_CR] & ~CR_IRQE);
+    set_voice(8, voices[1]);
+    who_waits();
+    for (round = 0; round < 4; round++) {
+        frames(16);
+        who_waits();
+        get_register(IRQV);
+        who_waits();
+    }
+}
+
+/* The waiting voices, until none waits. */
+static void play_waiting(void)
+{
+    play_flags();
+    play_no_flags();
+    play_turns();
+    play_events();
+    command(RESET, 0, 0);
+    who_waits();
+}
+
 static void make(void)
 {
     uint32_t place;
@@ -459,6 +558,7 @@ static void make(void)
     play_sums();
     play_chords();
     play_end();
+    play_waiting();
     put_number(0, 3); /* a command cut short, which gives no line */
 }
 
@@ -503,6 +603,14 @@ static void print_read(uint32_t address)
     printf("%" PRIu32 " %u\n", answer, (unsigned)byte);
 }
 
+static void print_waiting(void)
+{
+    uint32_t mask;
+    uint32_t answer = reference_waiting(record, RECORD_WORDS, &mask);
+
+    printf("%" PRIu32 " %" PRIu32 "\n", answer, mask);
+}
+
 static void print_answer(uint32_t answer)
 {
     printf("%" PRIu32 "\n", answer);
@@ -527,6 +635,9 @@ static void play_command(const unsigned char *bytes)
         break;
     case FRAME:
         print_frame();
+        break;
+    case WAITING:
+        print_waiting();
         break;
     default:
         printf("no call\n");
