@@ -1,12 +1,13 @@
 -- Bits of a word: a word by its parts above, at and below a bit; what a put bit leaves, in its range too; reading bit m after bit n was put.
 -- Assumes nothing.
-use mathlib.Core.Path.{_≡_, sym, ap, subst, _∙_}
+use mathlib.Core.Path.{_≡_, sym, ap, ap₂, subst, _∙_}
 use mathlib.Core.Bool.{true, false}
 use mathlib.Core.Logic.{_≢_}
-use Prim.Native.Nat.{ℕ, zero, suc, _+_, _-_, _*_, _/_, _%_, _^_, _<_, _≤_}
+use Prim.Native.Nat.{ℕ, zero, suc, _+_, _-_, _*_, _/_, _%_, _^_, _<_, _≤_, min}
 use native.Mathlib.Nat.{mod-lt, mod-eq-of-lt, mul-le-mul-right, pow-suc, mul-add-mod-self-right, mul-add-div-right}
 use native.Mathlib.Omega.{arith}
 use lib.Arith.{digits-div, digits-lt}
+use lib.Bits.{bitAnd, bitOr, and-step, and-mask, or-add-and}
 use lib.Pow.{pow-pos, pow-mono, pow-add, shr-lt, shr-shr, split}
 use lib.Dec.{eqb}
 use borrow.Author.Tests.{eqb-true, eqb-false}
@@ -46,6 +47,40 @@ pub bit-within : (n w : ℕ) → bitOf n w * 2 ^ n ≤ w
 bit-within n w =
     let e = parts n w in
     omega arith
+
+-- a bit by itself, and the bit set
+and-bit : (n w : ℕ) → bitAnd w (2 ^ n) ≡ bitOf n w * 2 ^ n
+unfolding bitOf
+and-bit zero w = and-mask w 1 ∙ omega arith
+and-bit (suc n) w =
+    let p : 2 ^ suc n ≡ 2 ^ n * 2 = pow-suc 2 n in
+    let half : 2 ^ suc n / 2 ≡ 2 ^ n = omega arith in
+    let even : 2 ^ suc n % 2 ≡ 0 = omega arith in
+    let e : suc n ≡ 1 + n = omega arith in
+    let q : w / 2 / 2 ^ n ≡ w / 2 ^ suc n = shr-shr w 1 n ∙ ap (λ (k : ℕ). w / 2 ^ k) (sym e) in
+    and-step w (2 ^ suc n)
+    ∙ ap₂ (λ (x y : ℕ). bitAnd (w / 2) x * 2 + min (w % 2) y) half even
+    ∙ ap (λ (x : ℕ). x * 2 + min (w % 2) 0) (and-bit n (w / 2))
+    ∙ ap (λ (x : ℕ). x % 2 * 2 ^ n * 2 + min (w % 2) 0) q
+    ∙ twice (w / 2 ^ suc n % 2) (2 ^ n) (2 ^ suc n) p
+  where
+    twice : (x k j : ℕ) → j ≡ k * 2 → x * k * 2 + min (w % 2) 0 ≡ x * j
+    twice x k j e = rw e (omega arith)
+
+pub or-bit : (n w : ℕ) → bitOr w (2 ^ n) ≡ withBit n 1 w
+unfolding withBit
+or-bit n w = omega (arith, or-add-and w (2 ^ n), and-bit n w, bit-within n w)
+
+-- any bit is put once it is set
+pub put-set : (n b w : ℕ) → b ≤ 1 → withBit n 1 w - (1 - b) * 2 ^ n ≡ withBit n b w
+unfolding withBit
+put-set n zero w h = omega (arith, bit-within n w)
+put-set n (suc zero) w h = omega arith
+put-set n (suc (suc b)) w h = absurd (let z : ⊥ = omega arith in z)
+
+pub set-within : (n b w : ℕ) → (1 - b) * 2 ^ n ≤ withBit n 1 w
+unfolding withBit
+set-within n b w = let h : 1 - b ≤ 1 = omega arith in omega (arith, mul-le-mul-right (2 ^ n) h)
 
 -- a bit put to what it is changes nothing
 pub put-same : (n b w : ℕ) → bitOf n w ≡ b → withBit n b w ≡ w

@@ -39,16 +39,16 @@ pub fn flag(n: u32, w: u32) -> bool
     requires { ⌜ n < 16 ⌝ }
     ensures { λ r. ⌜ r ≡ flagOf n w ⌝ }
 {
-    (w >> n) % 2 == 1
+    bit(n, w) == 1
 }
 
-// The word with bit n put to b, of any 32 bits.
+// The word with bit n put to b, of any 32 bits. The bit is set first, so that where b is 1 one instruction does it, whatever n is.
 pub fn put(n: u32, b: u32, w: u32) -> u32
     requires { ⌜ n < 32 ⌝ }
     requires { ⌜ b ≤ 1 ⌝ }
     ensures { λ r. ⌜ r ≡ withBit n b w ⌝ }
 {
-    w - (bit(n, w) << n) + (b << n)
+    (w | (1 << n)) - ((1 - b) << n)
 }
 
 // The same of a control register, which stays one of 16 bits.

@@ -1,10 +1,11 @@
 -- Frames computed from their definition. In order: two notes, and a record that plays some; the frame of a record; a table of chords
 -- and what is heard of them, with its theorem; one of voices and how many words they miss, with its theorem; one note's first frame, and its
--- second. Assumes nothing.
+-- second; a record in which a voice waits. Assumes nothing.
 --
 -- The rows of chords show what becomes of channel sums past the rails. A sum held after each voice would be heard: nine voices would give what
 -- eight do, and high and low voices together would depend on which came first.
 use mathlib.Core.Path.{_≡_, refl}
+use mathlib.Core.Bool.{true}
 use mathlib.Core.List.{List, [], _∷_, _++_, map}
 use Prim.Native.Nat.{ℕ, suc}
 use lib.IntN.{ℤ, pos}
@@ -20,9 +21,10 @@ use Rattle.sample.specs.Sample.{firstAt, secondAt, sampleOf, fetched, fraction,
 use Rattle.voice.specs.Turn.{lastOutputs, rampedLevels, withOutputs, moved, stoppedTurn, sampled, runningTurn, turnOf}
 use Rattle.answer.specs.declared.Answer.{Answer}
 use Rattle.answer.specs.declared.Answer.the-variants.{Done}
-use Rattle.machine.specs.Words.{CR, ACCUM, ACTV, voiceWord, voiceBits, sharedBits, bitsOf, cut, cutTo, isVector, valid}
+use Rattle.machine.specs.Words.{CR, ACCUM, ACTV, voiceWord, voiceBits, sharedBits, bitsOf, cut, cutTo, isVector, isTrueMask, waitingVoices, withMask, valid, WAIT_MASK}
 use Rattle.machine.specs.Voices.{voiceAt, putVoice}
 use Rattle.machine.specs.Check.{checked}
+use Rattle.machine.specs.Waiting.{waitingMask}
 use Rattle.machine.specs.Reset.{resetAnswer, resetWord, wordsFrom, fresh}
 use Rattle.voice.specs.Voice.{wordsOf}
 use Rattle.voice.specs.Missed.{missedBy}
@@ -57,7 +59,7 @@ playing v (w ∷ ws) = putVoice (playing (suc v) ws) v w
 
 -- what a frame answers, says to be missing, leaves and puts out; all that it computes by is named here, once
 unfoldable pub framed : List ℕ → Answer × (ℕ × (List ℕ × List ℤ))
-unfolding floorDiv floorMod signed word held bitOf flagOf withBit runs lowPass highPass coefficient pole3 pole4 filtered mantissa exponent volumeOf panned mixed putOut increment ramped slowRamped raised forwardEvent forward stepped firstAt secondAt sampleOf fetched fraction interpolated lastOutputs rampedLevels withOutputs moved stoppedTurn sampled runningTurn turnOf sharedBits bitsOf cut cutTo isVector valid voiceAt putVoice resetAnswer checked resetWord wordsFrom fresh wordsOf addedTo added signalled turnAt turns heard silenced closed played frameAnswer frameRecord frameOutput missingOf missedBy sum missedIn frameMissing
+unfolding floorDiv floorMod signed word held bitOf flagOf withBit runs lowPass highPass coefficient pole3 pole4 filtered mantissa exponent volumeOf panned mixed putOut increment ramped slowRamped raised forwardEvent forward stepped firstAt secondAt sampleOf fetched fraction interpolated lastOutputs rampedLevels withOutputs moved stoppedTurn sampled runningTurn turnOf sharedBits bitsOf cut cutTo isVector isTrueMask waitingVoices withMask valid voiceAt putVoice resetAnswer checked resetWord wordsFrom fresh wordsOf addedTo added signalled turnAt turns heard silenced closed played frameAnswer frameRecord frameOutput missingOf missedBy sum missedIn frameMissing
 framed m = (frameAnswer m memory silence, (frameMissing m memory silence, (frameRecord m memory silence, frameOutput m memory silence)))
 
 abbrev left : List (List ℕ) → ℤ
@@ -147,3 +149,17 @@ one-stepped = refl
 pub two-heard : frameOutput (frameRecord one memory silence) memory (frameOutput one memory silence) ≡ pos 515056 ∷ pos 7 ∷ replicate 10 (pos 0)
 unfolding framed
 two-heard = refl
+
+-- ---- a voice that waits
+
+-- stopped, with its flag set, and so in the mask
+abbrev pub waiting : List ℕ
+waiting = set (set fresh (voiceWord 0 CR) 131) WAIT_MASK 1
+
+pub waiting-valid : valid waiting ≡ true
+unfolding framed
+waiting-valid = refl
+
+pub one-waits : waitingMask waiting ≡ 1
+unfolding framed waitingMask
+one-waits = refl

@@ -18,15 +18,17 @@ use Rattle.answer.proofs.Refusals.{is-done}
 use Rattle.channel.specs.Channel.{putOut}
 use Rattle.machine.specs.Words.{SUMS, OUTPUT_VALUES, valid}
 use Rattle.machine.specs.Reset.{resetRecord}
+use Rattle.machine.specs.Waiting.{waitingAnswer}
 use Rattle.machine.proofs.Fresh.{fresh-valid}
 use Rattle.machine.proofs.Valid.{sound, is-valid}
+use Rattle.machine.proofs.Answers.{not-refused}
 use Rattle.registers.specs.Access.{potAnswer}
 use Rattle.registers.proofs.Laws.{byte-done, asked-back}
 use Rattle.registers.proofs.Valid.{word-lt}
 use Rattle.registers.proofs.Corollaries.{write-refused, read-refused, pot-refused}
 use Rattle.frame.specs.Frame.{played, heard, frameAnswer, frameOutput}
 use Rattle.frame.proofs.Answered.{done-frame, frames-refused}
-use Rattle.calls.specs.Calls.{Call, Reset, Write, Read, SetPot, Frame, answerTo, after, outputFrom}
+use Rattle.calls.specs.Calls.{Call, Reset, Write, Read, SetPot, Waiting, Frame, answerTo, after, outputFrom}
 use Rattle.calls.specs.Asks.{callOf, outputOf}
 use Rattle.calls.specs.declared.Ask.{Ask}
 use Rattle.calls.specs.declared.Ask.the-variants as Ask
@@ -64,6 +66,7 @@ done-valid m Reset h d = rw d fresh-valid
 done-valid m (Write a b) h d = after-valid m (Write a b) h (is-valid m (byte-done m a d .0))
 done-valid m (Read a) h d = after-valid m (Read a) h (is-valid m (byte-done m a d .0))
 done-valid m (SetPot p) h d = after-valid m (SetPot p) h (is-valid m (asked-back m 1023 p Pot refl d .0))
+done-valid m Waiting h d = after-valid m Waiting h (is-valid m (not-refused m (is-done (waitingAnswer m) d)))
 done-valid m (Frame memory out) h d = after-valid m (Frame memory out) h (is-valid m (done-frame m memory out (is-done (frameAnswer m memory out) d) .machine))
 
 -- and a refused one leaves the record as it was
@@ -73,6 +76,7 @@ refused-same m Reset d = rw d
 refused-same m (Write a b) d = write-refused m a b d
 refused-same m (Read a) d = read-refused m a d .0
 refused-same m (SetPot p) d = pot-refused m p d
+refused-same m Waiting d = refl
 refused-same m (Frame memory out) d = sym (frames-refused m memory out (frameAnswer m memory out) refl d .leaves)
 
 words-after : (m : List ℕ) (c : Call) → Byte c → All U32 m → All U32 (after m c)
@@ -93,6 +97,7 @@ values-after Ask.Reset m memory out h = h
 values-after (Ask.Write a b) m memory out h = h
 values-after (Ask.Read a) m memory out h = h
 values-after (Ask.SetPot p) m memory out h = h
+values-after Ask.Waiting m memory out h = h
 values-after Ask.Frame m memory out h =
     either (All I32) (isDone (frameAnswer m memory out)) (heard (played memory m)) out
     (λ _. all-mapped I32 putOut (take OUTPUT_VALUES (drop SUMS (played memory m))) put-out-bits)
@@ -105,6 +110,7 @@ byte-asked Ask.Reset memory out h = tt
 byte-asked (Ask.Write a b) memory out h = omega (arith, h .1)
 byte-asked (Ask.Read a) memory out h = tt
 byte-asked (Ask.SetPot p) memory out h = tt
+byte-asked Ask.Waiting memory out h = tt
 byte-asked Ask.Frame memory out h = tt
 
 pub lent-again : {m memory : List ℕ} {out : List ℤ} {ask : Ask} (o : Outcome) → Meets m memory out ask o → Lent m memory out ask

@@ -1,9 +1,9 @@
 -- The promises can be kept; and they leave no choice, and so no room for a wrong engine. In order: the engine of the definitions keeps
--- them; two outcomes that a promise allows are equal; two engines that keep the promises agree; a frame of one note can be lent; five
--- wrong engines, each of which breaks a promise in the frames of that note. Assumes nothing.
+-- them; two outcomes that a promise allows are equal; two engines that keep the promises agree; a frame of one note can be lent, and a record in
+-- which a voice waits; six wrong engines, each of which breaks a promise in one of these. Assumes nothing.
 use mathlib.Core.Path.{_≡_, refl, sym, ap, _∙_}
 use mathlib.Core.Bool.{false≢true}
-use mathlib.Core.List.{List}
+use mathlib.Core.List.{List, []}
 use Prim.Native.Nat.{ℕ}
 use lib.Dec.{lit<}
 use lib.IntN.{ℤ, pos, natAbs}
@@ -15,8 +15,8 @@ use Rattle.machine.proofs.Valid.{is-valid}
 use Rattle.frame.specs.Frame.{frameRecord, frameOutput}
 use Rattle.frame.proofs.Answered.{done-frame}
 use Rattle.calls.specs.Calls.{answerTo, after, givenBy, outputFrom}
-use Rattle.engines.specs.Engines.{U16, I32, Lent, Outcome, Engine, Meets, Keeps, defined, RefusesAll, PutsOutZeros, MissesNothing, NeverChanges, Repeats}
-use Rattle.engines.proofs.Heard.{one, memory, short, silence, framed, one-done, one-heard, one-missing, one-stepped, two-heard}
+use Rattle.engines.specs.Engines.{U16, I32, Lent, Outcome, Engine, Meets, Keeps, defined, RefusesAll, PutsOutZeros, MissesNothing, TellsNone, NeverChanges, Repeats}
+use Rattle.engines.proofs.Heard.{one, memory, short, silence, framed, one-done, one-heard, one-missing, one-stepped, two-heard, waiting, waiting-valid, one-waits}
 use Rattle.engines.proofs.Lent.{all-joined, all-copies, valid-words, lent-again}
 use Rattle.calls.specs.declared.Ask.{Ask}
 use Rattle.calls.specs.declared.Ask.the-variants as Ask
@@ -51,6 +51,10 @@ one-lent = record {
 short-lent : Lent one short silence Ask.Frame
 short-lent = record { words = one-lent .words; samples = all-copies U16 6 32767 (lit< tt); values = one-lent .values; asked = tt }
 
+-- a record in which a voice waits can be lent, with nothing beside it
+waiting-lent : Lent waiting [] [] Ask.Waiting
+waiting-lent = record { words = valid-words waiting waiting-valid; samples = tt; values = tt; asked = tt }
+
 -- the first value heard, without its sign
 leftmost : List ℤ → ℕ
 leftmost l = natAbs (getD l 0 (pos 0))
@@ -72,6 +76,12 @@ module _ (e : Engine) (keeps : Keeps e) where
   unfolding givenBy
   not-missing-nothing h =
       let p : _≡_ {A = ℕ} 1 0 = sym one-missing ∙ sym (keeps one short silence Ask.Frame short-lent .gives) ∙ h one short silence short-lent in
+      omega arith
+
+  pub not-telling-none : TellsNone e → ⊥
+  unfolding givenBy
+  not-telling-none h =
+      let p : _≡_ {A = ℕ} 1 0 = sym one-waits ∙ sym (keeps waiting [] [] Ask.Waiting waiting-lent .gives) ∙ h waiting [] [] waiting-lent in
       omega arith
 
   pub not-frozen : NeverChanges e → ⊥

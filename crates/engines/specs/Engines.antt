@@ -1,5 +1,5 @@
 -- An engine as a host meets it: to each call, on what is lent, one outcome. In order: what can be lent; the engine; when it keeps the
--- promises; the engine of the definitions; five ways in which an engine is wrong. Whether it keeps them and whether it is wrong is asked
+-- promises; the engine of the definitions; six ways in which an engine is wrong. Whether it keeps them and whether it is wrong is asked
 -- of what can be lent alone, since no code is ever lent anything else. Assumes nothing.
 use mathlib.Core.Path.{_≡_}
 use mathlib.Core.Bool.{true, false}
@@ -42,6 +42,7 @@ Askable Ask.Reset = Unit {0}
 Askable (Ask.Write a b) = U32 a × U8 b
 Askable (Ask.Read a) = U32 a
 Askable (Ask.SetPot p) = U32 p
+Askable Ask.Waiting = Unit {0}
 Askable Ask.Frame = Unit {0}
 
 -- a record, sample memory and an output, each of any length, and a call
@@ -93,6 +94,10 @@ PutsOutZeros e =
 -- every frame says that no word was missing
 abbrev pub MissesNothing : Engine → Type 0
 MissesNothing e = (m memory : List ℕ) (out : List ℤ) → Lent m memory out Ask.Frame → e m memory out Ask.Frame .given ≡ 0
+
+-- whoever asks is told that no voice waits
+abbrev pub TellsNone : Engine → Type 0
+TellsNone e = (m memory : List ℕ) (out : List ℤ) → Lent m memory out Ask.Waiting → e m memory out Ask.Waiting .given ≡ 0
 
 abbrev pub NeverChanges : Engine → Type 0
 NeverChanges e = (m memory : List ℕ) (out : List ℤ) (ask : Ask) → Lent m memory out ask → e m memory out ask .later ≡ m

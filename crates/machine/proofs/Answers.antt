@@ -3,7 +3,7 @@
 use mathlib.Core.Path.{_≡_, refl, sym, ap, subst, _∙_}
 use mathlib.Core.Bool.{Bool, true, false, not, cond, _&&_, and-assoc, and-comm}
 use mathlib.Core.List.{List, [], _∷_}
-use Prim.Native.Nat.{ℕ}
+use Prim.Native.Nat.{ℕ, _<_}
 use lib.Dec.{eqb}
 use lib.ListN.{length, getD}
 use borrow.Author.Tests.{eq-eqb, ne-eqb, not-false}
@@ -11,10 +11,12 @@ use Rattle.answer.specs.Answer.{isDone}
 use Rattle.answer.specs.declared.Answer.{Answer}
 use Rattle.answer.specs.declared.Answer.the-variants.{Done, RecordLength, RecordInvalid}
 use Rattle.answer.proofs.Refusals.{none-holds}
-use Rattle.machine.specs.Words.{cutTo, isVector, isTrueMask, valid, IRQV, WAIT_MASK, RECORD_WORDS}
+use Rattle.control.specs.Control.{flagOf}
+use Rattle.machine.specs.Words.{cutTo, isVector, isTrueMask, valid, waits, waitingVoices, IRQV, VOICES, WAIT_MASK, RECORD_WORDS}
 use Rattle.machine.specs.Check.{wrongLength, notValid, checked}
 use Rattle.machine.specs.Reset.{resetAnswer, fresh, resetRecord, Resets}
-use Rattle.machine.specs.Waiting.{waitingMask, Waits}
+use Rattle.machine.specs.Waiting.{waitingAnswer, waitingMask, Waits}
+use Rattle.machine.proofs.Mask.{flag-waits, none-waits, waits-none}
 use Rattle.machine.proofs.Valid.{both, Sound, sound, is-valid}
 
 module _ (m : List ℕ) where
@@ -85,3 +87,18 @@ waiting-done m e = record { answers = e; gives = rw (← e) }
 -- two outcomes that the promise allows are equal
 pub one-waiting : {m : List ℕ} {a b : Answer} {x y : ℕ} → Waits m a x → Waits m b y → (a ≡ b) × (x ≡ y)
 one-waiting p q = (p .answers ∙ sym (q .answers), p .gives ∙ sym (q .gives))
+
+-- For hosts: a call that is done gives a mask whose bit v is set exactly where voice v waits; so it is 0 exactly where no voice does.
+module _ (m : List ℕ) (done : waitingAnswer m ≡ Done) where
+  mask-given : waitingMask m ≡ waitingVoices m
+  unfolding waitingMask
+  mask-given = rw done (not-refused m done .mask)
+
+  pub bit-given : (v : ℕ) → v < VOICES → flagOf v (waitingMask m) ≡ waits m v
+  bit-given v h = ap (flagOf v) mask-given ∙ flag-waits m v h
+
+  pub none-given : waitingMask m ≡ 0 → (v : ℕ) → v < VOICES → waits m v ≡ false
+  none-given e = none-waits m (sym mask-given ∙ e)
+
+  pub given-none : ((v : ℕ) → v < VOICES → waits m v ≡ false) → waitingMask m ≡ 0
+  given-none f = mask-given ∙ waits-none m f

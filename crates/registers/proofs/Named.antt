@@ -1,7 +1,7 @@
 -- What a page and a register number name, and what they never name.
 -- In order: PAGE, on every page (`page-named`); each word of a voice, where it is written (`page-lt`, `register-lt`, `named`); only number 14
--- names the vector (`vector-14`), sums lie above all other words (`sum-above`), and a word is never the vector (`word-not-vector`). That a
--- word so named is one of the record is Inside. Assumes nothing.
+-- names the vector (`vector-14`), sums lie above all other words (`sum-above`), and a word is never the mask nor after it (`word-below`), nor the
+-- vector (`word-not-vector`). The last two stand on Inside. Assumes nothing.
 use mathlib.Core.Path.{_≡_, refl, subst}
 use mathlib.Core.Bool.{cond}
 use mathlib.Core.Logic.{_≢_}
@@ -10,7 +10,7 @@ use native.Mathlib.Omega.{arith}
 use lib.Dec.{eqb, ltb}
 use borrow.Author.Tests.{eqb-true, ne-eqb, lt-ltb, le-ltb}
 use Rattle.numbers.proofs.Tests.{either, cases}
-use Rattle.machine.specs.Words.{START, O4N1, PAGE, IRQV, SUMS, voiceWord}
+use Rattle.machine.specs.Words.{START, O4N1, PAGE, IRQV, SUMS, WAIT_MASK, voiceWord}
 use Rattle.registers.specs.declared.Register.{Register}
 use Rattle.registers.specs.declared.Register.the-variants.{Word, Sum, Par, Irqv, Nothing}
 use Rattle.registers.specs.Registers.{registerOf, lowPage, highPage, sumPage}
@@ -92,6 +92,9 @@ module _ (page r : ℕ) where
 
   pub sum-above : (i : ℕ) → registerOf page r ≡ Sum i → SUMS ≤ i
   sum-above i e = subst (Apart r) e (apart page r)
+
+  pub word-below : (i : ℕ) → r < 16 → registerOf page r ≡ Word i → i < WAIT_MASK
+  word-below i h e = subst Inside e (inside page r h) .0
 
   pub word-not-vector : (i : ℕ) → r < 16 → registerOf page r ≡ Word i → i ≢ IRQV
   word-not-vector i h e = subst Inside e (inside page r h) .1

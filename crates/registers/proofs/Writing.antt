@@ -1,7 +1,7 @@
 -- What a byte written leaves, and four bytes of one register in order, a whole register write.
 -- In order: a byte written to a valid record, by its register and its place there (`write-byte`); the write latch's highest bytes (`topOf`, and
 -- `top-none`, `top-next`, `top-last` as bytes are written), and those of a number (`byte-small`, `top-byte`, `four-bytes`); bytes 0 to 2
--- change the latch alone (`byte-written`); byte 3 stores the latch and clears it (`last-written`); the lowest byte of PAGE (`page-written`,
+-- change the latch alone (`byte-written`); byte 3 stores the latch and clears it (`last-written`, `shared-written`); the lowest byte of PAGE (`page-written`,
 -- `page-after`); what a byte leaves: a word below the sums that is not the latch and that it does not store into (`write-keeps`), the
 -- vector (`write-vector`); a whole write (`bytesTo`, `wholeWrite`) stores the word and clears the latch, whatever the latch held
 -- (`latch-covered`, `whole-write`).
@@ -31,7 +31,7 @@ use Rattle.registers.specs.Registers.{registerOf, byteOf, withByte, stor
 use Rattle.registers.specs.Access.{byteAnswer, writeRecord}
 use Rattle.registers.specs.Named.{Stores}
 use Rattle.registers.proofs.Laws.{asked-done, byte-done, writes-done}
-use Rattle.registers.proofs.Named.{page-named, sum-above, word-not-vector}
+use Rattle.registers.proofs.Named.{page-named, sum-above, word-below, word-not-vector}
 use Rattle.registers.proofs.Valid.{latch-lt, write-latch, byte-lt}
 
 -- ---- a byte written
@@ -101,15 +101,21 @@ pub last-written : {m : List ℕ} (r b i : ℕ) → Sound m → r < 16 → regis
 unfolding writtenTo stored
 last-written {m} r b i s hr e = write-byte m r 3 b s hr (omega arith) ∙ rw e
 
+-- into a shared word it stores that and no more: the mask is not touched
+pub shared-written : {m : List ℕ} (r b i : ℕ) → Sound m → r < 16 → registerOf (getD m PAGE 0) r ≡ Word i → PAGE ≤ i
+    → writeRecord m (4 * r + 3) b ≡ set (set m i (cut i (withByte 3 b (getD m WRITE_LATCH 0)))) WRITE_LATCH 0
+shared-written {m} r b i s hr e h =
+    let l = word-below (getD m PAGE 0) r i hr e in
+    last-written r b i s hr e
+    ∙ ap (λ (n : List ℕ). set n WRITE_LATCH 0) (masked-set m i (cut i (withByte 3 b (getD m WRITE_LATCH 0))) (s .mask) (λ u k z. omega arith) (λ z. omega arith))
+
 -- the lowest byte of PAGE: a page keeps 7 bits, so the other bytes are not heard
 pub page-written : {m : List ℕ} (b : ℕ) → Sound m → b < 128 → writeRecord m (4 * 15 + 3) b ≡ set (set m PAGE b) WRITE_LATCH 0
 unfolding cut bitsOf sharedBits withByte
 page-written {m} b s h =
     let x = withByte 3 b (getD m WRITE_LATCH 0) in
     let e : cut PAGE x ≡ b = and-mask x 7 ∙ omega arith in
-    last-written 15 b PAGE s (omega arith) (page-named (getD m PAGE 0))
-    ∙ ap (λ (y : ℕ). set (withMask (set m PAGE y)) WRITE_LATCH 0) e
-    ∙ ap (λ (n : List ℕ). set n WRITE_LATCH 0) (masked-set m PAGE b (s .mask) (λ u l z. omega arith) (λ z. omega arith))
+    shared-written 15 b PAGE s (omega arith) (page-named (getD m PAGE 0)) (omega arith) ∙ ap (λ (y : ℕ). set (set m PAGE y) WRITE_LATCH 0) e
 
 pub page-after : {m : List ℕ} (b : ℕ) → Sound m → b < 128 → getD (writeRecord m (4 * 15 + 3) b) PAGE 0 ≡ b
 page-after {m} b s h =

@@ -27,7 +27,7 @@ use Rattle.frame.proofs.Answered.{not-refused-frame}
 use Rattle.calls.specs.Calls.{Call, Frame, answerTo, after, run, outputs}
 use Rattle.calls.specs.WholeWrite.{writeCalls}
 use Rattle.calls.proofs.Runs.{frame-sound, frame-word}
-use Rattle.renumber.specs.Demand.{Renumbering, Match, Put, ofVoice, Phase, idle, Between, nothing, reading, potting, refused, paging, first, next, last}
+use Rattle.renumber.specs.Demand.{Renumbering, Match, Put, ofVoice, Phase, idle, Between, nothing, reading, potting, asking, refused, paging, first, next, last}
 use Rattle.renumber.specs.Demand.{Log, End, Then, Trace, stop, go-on, SameWrites, Alike}
 use Rattle.renumber.specs.Score.{writes, allWrites, Step, callsOf, putOn, stepOn, Fits, AllFit, Playable}
 use Rattle.renumber.proofs.Same.{same-equal}
@@ -42,6 +42,7 @@ unfolding run
 one-after-other nothing e = e
 one-after-other (reading a d) e = reading a (one-after-other d e)
 one-after-other (potting p d) e = potting p (one-after-other d e)
+one-after-other (asking d) e = asking (one-after-other d e)
 one-after-other (refused a b l d) e = refused a b l (one-after-other d e)
 one-after-other (paging k b hk hb d) e = paging k b hk hb (one-after-other d e)
 one-after-other (first r v j b hr hv hj hb n d) e = first r v j b hr hv hj hb n (one-after-other d e)

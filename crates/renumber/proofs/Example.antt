@@ -14,19 +14,21 @@ use lib.IntN.{ℤ}
 use lib.ListN.{length, getD, set, length-set}
 use lib.Seq.{getD-set-other}
 use borrow.Author.Tests.{ne-eqb, lt-ltb}
+use Rattle.numbers.specs.Sum.{sum}
 use Rattle.control.specs.Control.{bitOf, withBit, IRQ}
 use Rattle.control.proofs.Agree.{put-apart}
-use Rattle.machine.specs.Words.{PAGE, IRQV, ACTV, SLOW, SUMS, voiceBits, sharedBits, bitsOf, cut, cutTo, isVector, valid, RECORD_WORDS}
+use Rattle.machine.specs.Words.{PAGE, IRQV, ACTV, SLOW, SUMS, voiceBits, sharedBits, bitsOf, cut, cutTo, isVector, isTrueMask, waitingVoices, withMask, valid, WAIT_MASK, RECORD_WORDS}
 use Rattle.machine.specs.Voices.{voiceAt, putVoice}
 use Rattle.machine.specs.Reset.{resetWord, wordsFrom, fresh}
 use Rattle.machine.proofs.Parts.{voice-same, voice-set-shared, put-length, put-same, put-other, put-out}
 use Rattle.machine.proofs.Fresh.{fresh-length, fresh-at}
+use Rattle.machine.proofs.Mask.{masked-word, masked-voice}
 use Rattle.machine.proofs.Valid.{Sound, sound}
 use Rattle.registers.specs.Registers.{registerOf, lowPage}
 use Rattle.registers.proofs.Laws.{far-refused}
 use Rattle.frame.specs.Frame.{tooFew}
-use Rattle.calls.specs.Calls.{Call, Write, Read, SetPot, Frame, answerTo, run, outputs}
-use Rattle.renumber.specs.Demand.{Renumbering, SameVoice, Match, Put, ofVoice, idle, begun, Between, nothing, reading, potting, refused, paging, first, next, last}
+use Rattle.calls.specs.Calls.{Call, Write, Read, SetPot, Waiting, Frame, answerTo, run, outputs}
+use Rattle.renumber.specs.Demand.{Renumbering, SameVoice, Match, Put, ofVoice, idle, begun, Between, nothing, reading, potting, asking, refused, paging, first, next, last}
 use Rattle.renumber.specs.Demand.{Log, End, Then, Trace, stop, SameWrites}
 use Rattle.renumber.specs.Score.{writes, Fits}
 use Rattle.renumber.proofs.Same.{same-equal}
@@ -41,9 +43,9 @@ unfoldable pub note : ℕ → List ℕ
 note CR = CR ∷ 0 ∷ 65520 ∷ 0 ∷ 65520 ∷ 0 ∷ 0 ∷ 65520 ∷ 0 ∷ 65520 ∷ 0 ∷ 0 ∷ 4294967168 ∷ 0 ∷ 0 ∷ 0 ∷ 0 ∷ 0 ∷ 0 ∷ 0 ∷ []
 
 unfoldable pub machine : ℕ → ℕ → ℕ → ℕ → List ℕ
-machine v CR page vector = set (set (putVoice fresh v (note CR)) PAGE page) IRQV vector
+machine v CR page vector = withMask (set (set (putVoice fresh v (note CR)) PAGE page) IRQV vector)
 
--- the note is in voice 3, whose interrupt flag is set and waits in the vector; or in voice 5, with no flag and another page
+-- the note is in voice 3, whose interrupt flag is set, in the mask too, and waits in the vector; or in voice 5, with no flag and another page
 unfoldable pub one : List ℕ
 one = machine 3 896 3 3
 
@@ -51,20 +53,20 @@ unfoldable pub other : List ℕ
 other = machine 5 768 90 128
 
 one-valid : valid one ≡ true
-unfolding one machine note putVoice fresh wordsFrom resetWord valid cutTo cut bitsOf sharedBits isVector
+unfolding one machine note putVoice fresh wordsFrom resetWord valid cutTo cut bitsOf sharedBits isVector isTrueMask waitingVoices withMask sum bitOf
 one-valid = refl
 
 other-valid : valid other ≡ true
-unfolding other machine note putVoice fresh wordsFrom resetWord valid cutTo cut bitsOf sharedBits isVector
+unfolding other machine note putVoice fresh wordsFrom resetWord valid cutTo cut bitsOf sharedBits isVector isTrueMask waitingVoices withMask sum bitOf
 other-valid = refl
 
 -- at least five voices are active: a reset leaves all of them so
 one-active : tooFew one ≡ false
-unfolding one machine note putVoice fresh wordsFrom resetWord
+unfolding one machine note putVoice fresh wordsFrom resetWord withMask
 one-active = refl
 
 other-active : tooFew other ≡ false
-unfolding other machine note putVoice fresh wordsFrom resetWord
+unfolding other machine note putVoice fresh wordsFrom resetWord withMask
 other-active = refl
 
 -- ---- voices 3 and 5 exchanged
@@ -86,7 +88,7 @@ unfolding exchanged
 twice v = exchanged-cases v (λ x y. exchanged y ≡ x) refl refl (λ e f. rw (ne-eqb v 3 e, ne-eqb v 5 f))
 
 renumbers : Renumbering (getD one ACTV 0) exchanged
-unfolding one machine note putVoice fresh wordsFrom resetWord
+unfolding one machine note putVoice fresh wordsFrom resetWord withMask
 renumbers = record {
   into = λ v h. exchanged-cases v (λ x y. x < 32 → y < 32) (λ _. lit< tt) (λ _. lit< tt) (λ _ _ k. k) h;
   one-to-one = λ v u h k e. sym (twice v) ∙ ap exchanged e ∙ twice u;
@@ -110,7 +112,8 @@ module _ (v CR page vector : ℕ) (h : v < 32) where
   below : (u : ℕ) → u < 32 → voiceAt (machine v CR page vector) u ≡ voiceAt (putVoice fresh v (note CR)) u
   unfolding machine
   below u k =
-      voice-set-shared (set (putVoice fresh v (note CR)) PAGE page) u IRQV vector (length-set (putVoice fresh v (note CR)) PAGE page ∙ size) k (omega arith)
+      masked-voice (set (set (putVoice fresh v (note CR)) PAGE page) IRQV vector) u (simp length-set size) k
+      ∙ voice-set-shared (set (putVoice fresh v (note CR)) PAGE page) u IRQV vector (length-set (putVoice fresh v (note CR)) PAGE page ∙ size) k (omega arith)
       ∙ voice-set-shared (putVoice fresh v (note CR)) u PAGE page size k (omega arith)
 
   at-note : voiceAt (machine v CR page vector) v ≡ note CR
@@ -119,10 +122,11 @@ module _ (v CR page vector : ℕ) (h : v < 32) where
   at-rest : (u : ℕ) → u < 32 → u ≢ v → voiceAt (machine v CR page vector) u ≡ voiceAt fresh u
   at-rest u k d = below u k ∙ put-other fresh v (note CR) note-long note-fits u (omega (arith, fresh-length)) d
 
-  above : (i : ℕ) → IRQV < i → getD (machine v CR page vector) i 0 ≡ getD fresh i 0
+  above : (i : ℕ) → IRQV < i → i < WAIT_MASK → getD (machine v CR page vector) i 0 ≡ getD fresh i 0
   unfolding machine
-  above i k =
-      getD-set-other (set (putVoice fresh v (note CR)) PAGE page) IRQV i vector 0 (λ e. omega arith)
+  above i k l =
+      masked-word (set (set (putVoice fresh v (note CR)) PAGE page) IRQV vector) i (λ e. omega arith)
+      ∙ getD-set-other (set (putVoice fresh v (note CR)) PAGE page) IRQV i vector 0 (λ e. omega arith)
       ∙ getD-set-other (putVoice fresh v (note CR)) PAGE i page 0 (λ e. omega arith)
       ∙ put-out fresh v (note CR) note-long note-fits i (λ a b. omega arith)
 
@@ -153,13 +157,13 @@ matches = record {
       (λ _. rw (at-rest 3 896 3 3 (lit< tt) 5 (lit< tt) (λ e. omega arith), at-rest 5 768 90 128 (lit< tt) 3 (lit< tt) (λ e. omega arith)) (same-equal (rest 5 3 (lit< tt) (lit< tt))))
       (λ e f k. rw (at-rest 3 896 3 3 (lit< tt) v k e, at-rest 5 768 90 128 (lit< tt) v k f) (same-equal refl))
       h;
-  active = same ACTV (lit< tt);
-  slow = same SLOW (lit< tt);
-  sums = λ c h. same (SUMS + c) (omega arith);
+  active = same ACTV (lit< tt) (lit< tt);
+  slow = same SLOW (lit< tt) (lit< tt);
+  sums = λ c h. same (SUMS + c) (omega arith) (omega arith);
 }
   where
-    same : (i : ℕ) → IRQV < i → getD one i 0 ≡ getD other i 0
-    same i k = above 3 896 3 3 (lit< tt) i k ∙ sym (above 5 768 90 128 (lit< tt) i k)
+    same : (i : ℕ) → IRQV < i → i < WAIT_MASK → getD one i 0 ≡ getD other i 0
+    same i k l = above 3 896 3 3 (lit< tt) i k l ∙ sym (above 5 768 90 128 (lit< tt) i k l)
 
 -- ---- two traces
 
@@ -181,10 +185,10 @@ begin = Write 8 0 ∷ Read 56 ∷ []
 unfoldable pub finish : List Call
 finish = (Write 9 0 ∷ Write 10 128 ∷ Write 11 0 ∷ []) ++ writes stopped
 
--- On the other both writes stand whole after the frame. CR of voice 0 comes first; then a pot result, a byte of PAGE that is left at that,
--- and a write that is refused; then LVOL of voice 5.
+-- On the other both writes stand whole after the frame. CR of voice 0 comes first; then a pot result, the question which voices wait, a byte of
+-- PAGE that is left at that, and a write that is refused; then LVOL of voice 5.
 unfoldable pub whole : List Call
-whole = (writes stopped ++ SetPot 5 ∷ Write 60 1 ∷ Write 99 7 ∷ []) ++ writes (volume 5)
+whole = (writes stopped ++ SetPot 5 ∷ Waiting ∷ Write 60 1 ∷ Write 99 7 ∷ []) ++ writes (volume 5)
 
 fits : (v : ℕ) → v < 32 → Fits (volume v)
 unfolding volume
@@ -195,7 +199,7 @@ unfolding stopped
 fits-stopped = record { voice = lit< tt; word = lit< tt; number = lit< tt }
 
 begins : Between one idle begin [] (begun 2 3 2 1 0)
-unfolding begin one machine note putVoice fresh wordsFrom resetWord registerOf lowPage
+unfolding begin one machine note putVoice fresh wordsFrom resetWord withMask registerOf lowPage
 begins = first 2 3 2 0 (lit< tt) (lit< tt) (lit< tt) (lit< tt) refl (reading 56 nothing)
 
 finishes : {m : List ℕ} → Sound m → In m (begun 2 3 2 1 0) → Between m (begun 2 3 2 1 0) finish (volume 3 ∷ stopped ∷ []) idle
@@ -207,7 +211,7 @@ finishes s i =
 both-whole : {m : List ℕ} → Sound m → Between m idle whole (stopped ∷ volume 5 ∷ []) idle
 unfolding whole answerTo
 both-whole s =
-    let d = one-after-other (one-write stopped s fits-stopped) (potting 5 (paging 0 1 (lit< tt) (lit< tt) (refused 99 7 (far-refused _ 99 (lit< tt)) nothing))) in
+    let d = one-after-other (one-write stopped s fits-stopped) (potting 5 (asking (paging 0 1 (lit< tt) (lit< tt) (refused 99 7 (far-refused _ 99 (lit< tt)) nothing)))) in
     one-after-other d (one-write (volume 5) (between s d .sound) (fits 5 (lit< tt)))
 
 same-writes : SameWrites exchanged (volume 3 ∷ stopped ∷ []) (stopped ∷ volume 5 ∷ [])

@@ -17,20 +17,21 @@ use lib.Seq.{getD-set-same, getD-set-other}
 use borrow.Author.Tests.{eq-eqb, ne-eqb}
 use Rattle.numbers.proofs.Tests.{split, cases}
 use Rattle.answer.specs.Answer.{isDone}
-use Rattle.machine.specs.Words.{PAGE, PAR, ACTV, SLOW, WRITE_LATCH, SUMS, voiceWord, cut}
+use Rattle.machine.specs.Words.{PAGE, PAR, ACTV, SLOW, WRITE_LATCH, SUMS, voiceWord, cut, withMask}
 use Rattle.machine.specs.Voices.{voiceAt}
 use Rattle.machine.proofs.Parts.{voice-word, voice-length, voice-same, voice-set, voice-set-out}
-use Rattle.machine.proofs.Valid.{Sound, sound, is-valid, cut-again, cut-voice, sound-set}
+use Rattle.machine.proofs.Valid.{Sound, in-range, sound, is-valid, cut-again, cut-voice, range-set, sound-masked, sound-set}
+use Rattle.machine.proofs.Mask.{masked-word, masked-voice}
 use Rattle.registers.specs.Registers.{registerOf, withByte}
 use Rattle.registers.specs.declared.Register.the-variants.{Word}
 use Rattle.registers.specs.Access.{writeRecord, readRecord, potRecord}
 use Rattle.registers.proofs.Named.{page-named}
 use Rattle.registers.proofs.Valid.{latch-lt, write-latch, byte-lt}
-use Rattle.registers.proofs.Writing.{topOf, top-none, top-next, top-last, byte-written, last-written}
+use Rattle.registers.proofs.Writing.{topOf, top-none, top-next, top-last, byte-written, last-written, shared-written}
 use Rattle.registers.proofs.Reading.{read-keeps, read-shared, read-flag}
 use Rattle.registers.proofs.Corollaries.{read-valid, pot-valid, write-refused, pot-keeps}
 use Rattle.calls.specs.Calls.{Call, Write, Read, SetPot, answerTo, after, run}
-use Rattle.renumber.specs.Demand.{SameVoice, Put, ofVoice, Phase, idle, begun, Between, nothing, reading, potting, refused, paging, first, next, last}
+use Rattle.renumber.specs.Demand.{SameVoice, Put, ofVoice, Phase, idle, begun, Between, nothing, reading, potting, asking, refused, paging, first, next, last}
 use Rattle.renumber.proofs.Same.{same-equal, same-then, same-set}
 
 -- ---- a voice after its writes
@@ -113,17 +114,17 @@ latch-moved {m} x s h = quiet WRITE_LATCH (lit≤ tt, lit< tt, λ e. omega arith
 
 -- ---- a write of a voice
 
-put-moved : {m : List ℕ} (v j x : ℕ) → Sound m → v < 32 → j < 20 → Moved m (record { voice = v; word = j; number = x } ∷ []) (set m (voiceWord v j) (cut (voiceWord v j) x))
+put-moved : {m : List ℕ} (v j x : ℕ) → Sound m → v < 32 → j < 20 → Moved m (record { voice = v; word = j; number = x } ∷ []) (withMask (set m (voiceWord v j) (cut (voiceWord v j) x)))
 unfolding puts
 put-moved {m} v j x s hv hj =
     let i = voiceWord v j in
     let y = cut (voiceWord v j) x in
     record {
-      sound = sound-set i y s (omega arith) (cut-again i x) (λ e. absurd (let z : ⊥ = omega arith in z));
-      voices = λ u hu. at u hu (ℕ-discrete u v);
-      active = getD-set-other m i ACTV y 0 (λ e. omega arith);
-      slow = getD-set-other m i SLOW y 0 (λ e. omega arith);
-      sums = λ c h. getD-set-other m i (SUMS + c) y 0 (λ e. omega arith);
+      sound = sound-masked (range-set i y (in-range s) (omega arith) (cut-again i x) (λ e. absurd (let z : ⊥ = omega arith in z)));
+      voices = λ u hu. rw (masked-voice (set m i y) u (length-set m i y ∙ s .size) hu) (at u hu (ℕ-discrete u v));
+      active = masked-word (set m i y) ACTV (λ e. omega arith) ∙ getD-set-other m i ACTV y 0 (λ e. omega arith);
+      slow = masked-word (set m i y) SLOW (λ e. omega arith) ∙ getD-set-other m i SLOW y 0 (λ e. omega arith);
+      sums = λ c h. masked-word (set m i y) (SUMS + c) (λ e. omega arith) ∙ getD-set-other m i (SUMS + c) y 0 (λ e. omega arith);
     }
   where
     at : (u : ℕ) → u < 32 → Dec (u ≡ v) → SameVoice (voiceAt (set m (voiceWord v j) (cut (voiceWord v j) x)) u) (puts (ofVoice u (record { voice = v; word = j; number = x } ∷ [])) (voiceAt m u))
@@ -151,7 +152,7 @@ read-quiet {m} a s = record {
           rw (voice-word (readRecord m a) v 0 (lit< tt), voice-word m v 0 (lit< tt)) (read-flag m a v b h d);
       others = λ j l k.
           voice-word (readRecord m a) v j k
-          ∙ read-keeps m a (voiceWord v j) (λ e. omega arith) (λ e. omega arith) (λ e. omega arith) (λ e. omega arith)
+          ∙ read-keeps m a (voiceWord v j) (λ e. omega arith) (λ e. omega arith) (λ e. omega arith) (λ e. omega arith) (λ e. omega arith)
           ∙ sym (voice-word m v j k);
     };
     active = read-shared m a ACTV s (lit≤ tt) (lit< tt) (λ e. omega arith) (λ e. omega arith) (λ e. omega arith);
@@ -194,8 +195,8 @@ page-moved {m} k b s hk hb = cases k 3 (Moved m [] (writeRecord m (4 * 15 + k) b
     (λ l.
     let x = withByte 3 b (getD m WRITE_LATCH 0) in
     let e : k ≡ 3 = omega arith in
-    let p = quiet PAGE (lit≤ tt, lit< tt, λ e. omega arith, λ e. omega arith) s (sound-set PAGE (cut PAGE x) s (lit< tt) (cut-again PAGE x) (λ z. absurd (let y : ⊥ = omega arith in y))) (but-set m PAGE (cut PAGE x)) in
-    rw (e, last-written 15 b PAGE s (lit< tt) (page-named (getD m PAGE 0))) (moved-then s p (latch-moved 0 (p .sound) (lit< tt))))
+    let p = quiet PAGE (lit≤ tt, lit< tt, λ e. omega arith, λ e. omega arith) s (sound-set PAGE (cut PAGE x) s (lit≤ tt) (lit< tt) (cut-again PAGE x) (λ z. absurd (let y : ⊥ = omega arith in y))) (but-set m PAGE (cut PAGE x)) in
+    rw (e, shared-written 15 b PAGE s (lit< tt) (page-named (getD m PAGE 0)) (lit≤ tt)) (moved-then s p (latch-moved 0 (p .sound) (lit< tt))))
 
 -- ---- the calls
 
@@ -249,6 +250,7 @@ stretch {φ = φ} s i (reading a d) =
 stretch {φ = φ} s i (potting p d) =
     let q = pot-quiet p s in
     call-then s (q .moved) (stretch (q .moved .sound) (in-kept φ (q .kept) i) d)
+stretch s i (asking d) = stretch s i d
 stretch {φ = φ} s i (refused a b l d) =
     let q = refused-quiet a b s l in
     call-then s (q .moved) (stretch (q .moved .sound) (in-kept φ (q .kept) i) d)

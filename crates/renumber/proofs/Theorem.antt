@@ -14,7 +14,7 @@ use Rattle.machine.specs.Voices.{voiceAt}
 use Rattle.machine.proofs.Valid.{Sound, sound}
 use Rattle.calls.specs.Calls.{Call, Frame, answerTo, after, outputFrom, run, outputs}
 use Rattle.calls.proofs.Runs.{run-both, outputs-at, frame-sound, frame-word}
-use Rattle.renumber.specs.Demand.{Into, Renumbering, Match, Put, ofVoice, Phase, Between, nothing, reading, potting, refused, paging, first, next, last}
+use Rattle.renumber.specs.Demand.{Into, Renumbering, Match, Put, ofVoice, Phase, Between, nothing, reading, potting, asking, refused, paging, first, next, last}
 use Rattle.renumber.specs.Demand.{Log, Trace, stop, go-on, SameWrites, Alike, SameFrame, Along, Inaudible}
 use Rattle.renumber.proofs.Same.{same-equal, same-back, same-then}
 use Rattle.renumber.proofs.Frame.{frame-same, frame-match}
@@ -41,6 +41,7 @@ unfolding outputs outputFrom
 silent nothing = refl
 silent (reading a d) = silent d
 silent (potting p d) = silent d
+silent (asking d) = silent d
 silent (refused a b l d) = silent d
 silent (paging k b hk hb d) = silent d
 silent (first r v j b hr hv hj hb e d) = silent d

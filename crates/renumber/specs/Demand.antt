@@ -17,7 +17,7 @@ use Rattle.machine.specs.Words.{VOICES, VOICE_WORDS, CR, PAGE, ACTV, SLOW, SUMS
 use Rattle.machine.specs.Voices.{voiceAt}
 use Rattle.registers.specs.Registers.{registerOf}
 use Rattle.registers.specs.declared.Register.the-variants.{Word}
-use Rattle.calls.specs.Calls.{Call, Write, Read, SetPot, Frame, answerTo, after, givenBy, outputFrom, run, outputs}
+use Rattle.calls.specs.Calls.{Call, Write, Read, SetPot, Waiting, Frame, answerTo, after, givenBy, outputFrom, run, outputs}
 
 -- ---- renumberings
 
@@ -42,7 +42,7 @@ pub record SameVoice (w x : List ℕ) : Type 0 where
   pub others : (j : ℕ) → CR < j → j < VOICE_WORDS → getD w j 0 ≡ getD x j 0
 
 -- The voices match under s, and the active counts, the slow-ramp counters and the channel sums are equal. All else may differ: PAGE,
--- IRQV, PAR, MODE, W_ST, W_END, LR_END and both latches.
+-- IRQV, PAR, MODE, W_ST, W_END, LR_END, both latches, and the mask of the waiting voices, which is excepted with the flags.
 pub record Match (s : ℕ → ℕ) (m n : List ℕ) : Type 0 where
   pub voices : (v : ℕ) → v < VOICES → SameVoice (voiceAt m v) (voiceAt n (s v))
   pub active : getD m ACTV 0 ≡ getD n ACTV 0
@@ -73,11 +73,14 @@ pub data Phase : Type 0 where
 -- they finish, in order, and ψ is how far the writes have come at the end. There is no reset among them, and no write but those named here.
 pub data Between : List ℕ → Phase → List Call → List Put → Phase → Type 0 where
   nothing : {m : List ℕ} {φ : Phase} → Between m φ [] [] φ
-  -- reads may stand anywhere, also between the bytes of a write; so may pot results, and writes that are refused
+  -- reads may stand anywhere, also between the bytes of a write; so may pot results, the call that tells which voices wait, and writes that are
+  -- refused
   reading : {m : List ℕ} {φ ψ : Phase} {t : List Call} {ps : List Put} (a : ℕ)
       → Between (after m (Read a)) φ t ps ψ → Between m φ (Read a ∷ t) ps ψ
   potting : {m : List ℕ} {φ ψ : Phase} {t : List Call} {ps : List Put} (p : ℕ)
       → Between (after m (SetPot p)) φ t ps ψ → Between m φ (SetPot p ∷ t) ps ψ
+  asking : {m : List ℕ} {φ ψ : Phase} {t : List Call} {ps : List Put}
+      → Between (after m Waiting) φ t ps ψ → Between m φ (Waiting ∷ t) ps ψ
   refused : {m : List ℕ} {φ ψ : Phase} {t : List Call} {ps : List Put} (a b : ℕ) → isDone (answerTo m (Write a b)) ≡ false
       → Between (after m (Write a b)) φ t ps ψ → Between m φ (Write a b ∷ t) ps ψ
   -- a byte of PAGE, register 15: single bytes will do, in any order

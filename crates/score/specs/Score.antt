@@ -6,7 +6,7 @@ use mathlib.Core.List.{List}
 use lib.Dec.{eqb}
 use lib.ListN.{getD}
 use Rattle.layout.specs.Bytes.{big2At, big4At}
-use Rattle.calls.specs.declared.Ask.the-variants.{Reset, Write, Read, SetPot, Frame}
+use Rattle.calls.specs.declared.Ask.the-variants.{Reset, Write, Read, SetPot, Waiting, Frame}
 use Rattle.score.specs.declared.Command.{Command}
 use Rattle.score.specs.declared.Command.the-variants.{Call, Unknown}
 
@@ -20,7 +20,8 @@ commandOf kind n byte =
     (cond (eqb kind 1) (Call (Write n byte))
     (cond (eqb kind 2) (Call (Read n))
     (cond (eqb kind 3) (Call (SetPot n))
-    (cond (eqb kind 4) (Call Frame) Unknown))))
+    (cond (eqb kind 4) (Call Frame)
+    (cond (eqb kind 5) (Call Waiting) Unknown)))))
 
 -- the command whose six bytes begin at i
 abbrev pub commandAt : List ℕ → ℕ → Command

@@ -3,9 +3,10 @@
 // byte first, and one byte.
 //
 // kind 0: reset. 1: write the byte at the address that the number gives. 2: read there. 3: set the pot result to the number. 4: run a frame.
+// 5: ask which voices wait.
 //
-// Each command gives one line: the answer's number, for a read also the byte, for a frame also how many words were missing and the twelve
-// values. A command of any other kind gives the line "no call". A last command that is cut short is left out, and so is all that stands after
+// Each command gives one line: the answer's number, for a read also the byte, for kind 5 also the mask of the waiting voices, for a frame also how
+// many words were missing and the twelve values. A command of any other kind gives the line "no call". A last command that is cut short is left out, and so is all that stands after
 // 65,536 bytes; a score whose sample memory is cut short gives no line.
 ghost use mathlib.Core.Path.{_≡_};
 ghost use Prim.Native.Nat.{_+_, _*_, _≤_};
@@ -71,6 +72,7 @@ fn say(ask: Ask, reply: Reply, out: &[i32]) {
     io::print_decimal(STDOUT_FILENO, answer::number(answer) as u64);
     match ask {
         Ask::Read(_) => say_number(reply.given),
+        Ask::Waiting => say_number(reply.given),
         Ask::Frame => {
             say_number(reply.given);
             say_values(out);
@@ -131,6 +133,7 @@ fn command_of(kind: u8, n: u32, byte: u8) -> Command
         2 => Command::Call(Ask::Read(n)),
         3 => Command::Call(Ask::SetPot(n)),
         4 => Command::Call(Ask::Frame),
+        5 => Command::Call(Ask::Waiting),
         _ => Command::Unknown,
     }
 }

@@ -1,38 +1,27 @@
--- `control::put` meets its contract: each shifted bit fits, the old one is in the word, and the word stays one of 32 bits. Assumes nothing.
+-- `control::put` meets its contract: each shifted bit fits, and a bit that is set can be taken off. Assumes nothing.
 use mathlib.Core.Path.{_≡_}
-use Prim.Native.Nat.{_+_, _-_, _*_, _%_, _^_}
+use Prim.Native.Nat.{ℕ, _-_, _*_, _%_, _^_, _≤_}
 use native.Mathlib.Omega.{arith}
+use lib.Bits.{bitOr}
 use borrow.Author.Needs.{needs}
-use Rattle.control.specs.Control.{withBit, bitOf}
-use Rattle.control.proofs.Bits.{bit-le, bit-within, in-place, put-below}
+use Rattle.control.specs.Control.{withBit}
+use Rattle.control.proofs.Bits.{in-place, or-bit, put-set, set-within}
 use Rattle.control.proofs.put.Statement.{statement}
 use Rattle.control.proofs.put.Tie as tie
 
--- what is computed is the word with the bit put
-computed : (c : tie.After-bit)
-    → c .before .args .w - (c .bit .result * 2 ^ (c .before .args .n)) % 4294967296 + (c .before .args .b * 2 ^ (c .before .args .n)) % 4294967296
-    ≡ withBit (c .before .args .n) (c .before .args .b) (c .before .args .w)
-unfolding withBit
-computed c =
-    let s = c .before in
-    let n = s .args .n in
-    let w = s .args .w in
-    rw (c .bit .ensures .0, in-place n (bitOf n w) (s .pre .0) (bit-le n w), in-place n (s .args .b) (s .pre .0) (s .pre .1))
+-- each shifted bit fits
+fits : (s : tie.Start) (x : ℕ) → x ≤ 1 → (x * 2 ^ (s .args .n)) % 4294967296 ≡ x * 2 ^ (s .args .n)
+fits s x h = in-place (s .args .n) x (s .pre .0) h
 
-sub-result : tie.Need-sub-result
-sub-result c =
-    let s = c .before in
-    let n = s .args .n in
-    let w = s .args .w in
-    rw (c .bit .ensures .0, in-place n (bitOf n w) (s .pre .0) (bit-le n w)) (bit-within n w)
+-- the word with the bit set
+is-set : (s : tie.Start) → bitOr (s .args .w) ((1 * 2 ^ (s .args .n)) % 4294967296) ≡ withBit (s .args .n) 1 (s .args .w)
+is-set s = let e : (1 * 2 ^ (s .args .n)) % 4294967296 ≡ 2 ^ (s .args .n) = omega (arith, fits s 1 (omega arith)) in rw e (or-bit (s .args .n) (s .args .w))
 
-add-result : tie.Need-add-result
-add-result c =
-    let s = c .before in
-    omega (arith, computed c, put-below 32 (s .args .n) (s .args .b) (s .args .w) (s .pre .0) (s .pre .1) (omega (arith, s .fits .w)))
+sub-result-2 : tie.Need-sub-result-2
+sub-result-2 c = rw (is-set c, fits c (1 - c .args .b) (omega arith)) (set-within (c .args .n) (c .args .b) (c .args .w))
 
 returns : tie.Need-returns
-returns c = computed c
+returns c = rw (is-set c, fits c (1 - c .args .b) (omega arith)) (put-set (c .args .n) (c .args .b) (c .args .w) (c .pre .1))
 
 pub put-spec : {M : Type 1} → statement M
-put-spec = tie.close (tie.spec (λ c κs. search needs) (λ c. search needs) sub-result (λ c. search needs) add-result returns)
+put-spec = tie.close (tie.spec (λ c. search needs) (λ c. search needs) (λ c. search needs) sub-result-2 returns)
