@@ -120,7 +120,7 @@ static UNFOLD four gather_firsts(const uint32_t *record, uint32_t *flags)
 }
 
 /* A word keeps the same bits in every voice, so all voices' bits are gathered
-   and held against the mask once; so are those of the twelve channel sums. */
+   and held against these once; so are those of the twelve channel sums. */
 static UNFOLD four stray_bits(const uint32_t *record, uint32_t *flags)
 {
     const uint32_t *shared = record + WORD_PAGE;

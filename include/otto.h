@@ -49,7 +49,8 @@ extern "C" {
 
 #define OTTO_DONE           0u
 #define OTTO_RECORD_LENGTH  1u /* the record is not 664 words */
-#define OTTO_RECORD_INVALID 2u /* a word has a bit or value it may not have */
+#define OTTO_RECORD_INVALID 2u /* a word has a bit or value it may not have, or
+                                  the mask of waiting voices is not true */
 #define OTTO_ADDRESS        3u /* the byte address is above 63 */
 #define OTTO_POT            4u /* the pot result is above 1023 */
 #define OTTO_MEMORY_LENGTH  5u /* sample memory is longer than four banks */
@@ -142,7 +143,7 @@ uint32_t otto_frame(uint32_t *record, size_t words, const uint16_t *memory,
  * a frame that found the vector free, it names the lowest active voice of the
  * mask, if there is one. A voice comes to wait by a loop event while IRQE is
  * set in its CR, or by a CR that the host writes with IRQ set; a CR written
- * without IRQ takes it out of the mask.
+ * without IRQ takes it out of the mask, but not out of the vector.
  *
  * The mask is a word of the record, and every call keeps it true; a reset makes
  * it 0. Between calls a host may look at record[OTTO_WAIT_MASK] itself; no

@@ -1,7 +1,7 @@
 -- A call as a host hands it over, with what it lends beside it. Assumes nothing.
 use Prim.Native.Nat.{ℕ}
 use mathlib.Core.Path.{_≡_}
-use mathlib.Core.List.{List, []}
+use mathlib.Core.List.{List}
 use lib.IntN.{ℤ}
 use Rattle.answer.specs.declared.Answer.{Answer}
 use Rattle.calls.specs.Calls.{Call, Reset, Write, Read, SetPot, Waiting, Frame, answerTo, after, givenBy, outputFrom}

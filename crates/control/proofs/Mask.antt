@@ -1,8 +1,8 @@
 -- A mask: bits side by side in one word, bit v being f v, for v below n.
 -- In order: it has n bits (`mask-lt`); each of its bits (`mask-bit`); one bit changed (`mask-changed`). Assumes nothing.
-use mathlib.Core.Path.{_≡_, sym, ap, subst, _∙_}
+use mathlib.Core.Path.{_≡_, ap, _∙_}
 use mathlib.Core.Logic.{_≢_}
-use Prim.Native.Nat.{ℕ, zero, suc, _+_, _-_, _*_, _/_, _^_, _<_, _≤_}
+use Prim.Native.Nat.{ℕ, zero, suc, _-_, _*_, _/_, _^_, _<_, _≤_}
 use native.Mathlib.Decide.{ℕ-discrete}
 use native.Mathlib.Nat.{not-suc-le-zero, pow-suc, mul-le-mul-right, div-eq-of-lt}
 use native.Mathlib.Omega.{arith}

@@ -1,5 +1,6 @@
 // The control register of a voice: its bits by number, one read, one put, and its fields.
-// A bit's number is a literal wherever these are called, so the compiler leaves one test or one mask of each.
+// The number of a control register's bit is a literal wherever these are called, so the compiler leaves one or two instructions of each. Of another
+// word `put` takes any number.
 ghost use mathlib.Core.Path.{_≡_};
 ghost use Prim.Native.Nat.{_<_, _≤_};
 ghost use Rattle.control.specs.Control.{bitOf, flagOf, withBit, channelOf, bankOf, runs};

@@ -21,7 +21,7 @@ use Rattle.sample.specs.Sample.{firstAt, secondAt, sampleOf, fetched, fraction,
 use Rattle.voice.specs.Turn.{lastOutputs, rampedLevels, withOutputs, moved, stoppedTurn, sampled, runningTurn, turnOf}
 use Rattle.answer.specs.declared.Answer.{Answer}
 use Rattle.answer.specs.declared.Answer.the-variants.{Done}
-use Rattle.machine.specs.Words.{CR, ACCUM, ACTV, voiceWord, voiceBits, sharedBits, bitsOf, cut, cutTo, isVector, isTrueMask, waitingVoices, withMask, valid, WAIT_MASK}
+use Rattle.machine.specs.Words.{CR, ACCUM, ACTV, voiceWord, sharedBits, bitsOf, cut, cutTo, isVector, isTrueMask, waitingVoices, withMask, valid, WAIT_MASK}
 use Rattle.machine.specs.Voices.{voiceAt, putVoice}
 use Rattle.machine.specs.Check.{checked}
 use Rattle.machine.specs.Waiting.{waitingMask}

@@ -14,7 +14,7 @@ use lib.IntN.{ℤ}
 use lib.ListN.{length, getD}
 use Rattle.numbers.specs.Numbers.{word}
 use Rattle.numbers.proofs.Tests.{either, all, all-at}
-use Rattle.control.specs.Control.{flagOf, channelOf, IRQ}
+use Rattle.control.specs.Control.{flagOf, IRQ}
 use Rattle.channel.specs.Channel.{mixed}
 use Rattle.channel.proofs.Laws.{mixed-is}
 use Rattle.machine.specs.Words.{voiceBits, sharedBits, bitsOf, cut, isVector, ACTV, IRQV, SLOW, SUMS}

@@ -3,7 +3,7 @@
 -- In order: nothing added; the mask made true before or after something is added; the record with the part put back is in range; what is added is the
 -- turn's; the mask lacks the voice's flag at most; the turn. Assumes nothing.
 use mathlib.Core.Path.{_≡_, refl, sym, ap, _∙_}
-use mathlib.Core.Bool.{true, false, cond}
+use mathlib.Core.Bool.{false, cond}
 use mathlib.Core.List.{List, _++_}
 use Prim.Native.Nat.{ℕ, _+_, _*_, _%_, _<_, _≤_}
 use native.Mathlib.Omega.{arith}

@@ -3,18 +3,15 @@
 use mathlib.Core.Path.{_≡_, refl, sym, ap, subst, _∙_}
 use mathlib.Core.Bool.{Bool, true, false, cond, _&&_}
 use mathlib.Core.List.{List}
-use mathlib.Core.Logic.{_≢_}
-use Prim.Native.Nat.{ℕ, zero, suc, _+_, _<_, _≤_}
-use native.Mathlib.Decide.{ℕ-discrete}
+use Prim.Native.Nat.{ℕ, zero, suc, _<_, _≤_}
 use native.Mathlib.Nat.{not-suc-le-zero}
 use native.Mathlib.Numerals.{add-one}
 use native.Mathlib.Omega.{arith}
-use borrow.Author.Tests.{eq-eqb, ne-eqb}
+use borrow.Author.Tests.{ne-eqb}
 use lib.Dec.{eqb, lit<, lit≤}
 use lib.IntN.{ℤ}
 use lib.ListN.{getD}
 use Rattle.numbers.proofs.Tests.{split, cases}
-use Rattle.answer.specs.Answer.{isDone}
 use Rattle.answer.specs.declared.Answer.the-variants.{Done}
 use Rattle.control.specs.Control.{flagOf, IRQ}
 use Rattle.machine.specs.Words.{CR, IRQV, ACTV, SLOW, WAIT_MASK, NO_INTERRUPT, waits}

@@ -1,14 +1,14 @@
 -- The record after a reset: each word, its length, and that it is valid. Assumes nothing.
 use mathlib.Core.Path.{_≡_, refl, sym, ap, _∙_}
 use mathlib.Core.Bool.{true}
-use mathlib.Core.List.{List, [], _∷_}
+use mathlib.Core.List.{List}
 use Prim.Native.Nat.{ℕ, zero, suc, _+_, _<_}
 use native.Mathlib.Nat.{not-suc-le-zero, le-of-suc-le-suc, add-zero, zero-add, add-suc, suc-add}
 use lib.ListN.{length, getD}
 use lib.Seq.{ext-getD}
 use Rattle.numbers.specs.Sum.{sum}
 use Rattle.control.specs.Control.{bitOf}
-use Rattle.machine.specs.Words.{valid, cutTo, cut, bitsOf, voiceBits, sharedBits, isVector, isTrueMask, waitingVoices, RECORD_WORDS}
+use Rattle.machine.specs.Words.{valid, cutTo, cut, bitsOf, sharedBits, isVector, isTrueMask, waitingVoices, RECORD_WORDS}
 use Rattle.machine.specs.Reset.{resetWord, wordsFrom, fresh}
 
 from-length : (f : ℕ → ℕ) (i n : ℕ) → length (wordsFrom f i n) ≡ n

@@ -2,7 +2,7 @@
 -- that touches a word takes its number and its bits from here.
 -- In order: the sizes; the words of a voice; the shared words; the bits kept; a word cut to them; the waiting voices; validity. Assumes nothing.
 use Prim.Native.Nat.{ℕ, zero, suc, _+_, _-_, _*_, _%_, _^_}
-use mathlib.Core.Bool.{Bool, true, cond, not, _&&_, _||_}
+use mathlib.Core.Bool.{Bool, true, cond, _&&_, _||_}
 use mathlib.Core.List.{List, [], _∷_}
 use lib.Bits.{bitAnd}
 use lib.Dec.{eqb, ltb}

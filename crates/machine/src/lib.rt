@@ -103,7 +103,7 @@ pub const NO_INTERRUPT: u32 = 128;
 // The greatest pot value, which PAR also holds after a reset and once it is read.
 pub const POT_LIMIT: u32 = 1023;
 
-// The bits kept by a filter word of a voice, and by a sum: the check holds four of them at a time against one mask.
+// The bits kept by a filter word of a voice, and by a sum: the check holds four words at a time against one of these.
 const FILTER_BITS: u32 = 0x3FFFF;
 
 const SUM_BITS: u32 = 0x7F_FFFF;
@@ -216,8 +216,8 @@ fn look_at_four(m: &[u32], j: usize, kept: &[u32; VOICE_WORDS], stray: &mut [u32
     }
 }
 
-// The stray bits of the voices' last four words, of the sums and of the words between go into the lanes. One mask serves the last four
-// words and one the sums; only the words between have masks of their own. They are eleven, so the last lane takes the first sum twice.
+// The stray bits of the voices' last four words, of the sums and of the words between go into the lanes. The last four words keep the same bits,
+// and so do the sums; only the words between have bits of their own. They are eleven, so the last lane takes the first sum twice.
 fn look_at_rest(m: &[u32], kept: &[u32; SHARED_WORDS], stray: &mut [u32; 4])
     requires { ⌜ length (now m) ≡ Words·RECORD_WORDS ⌝ }
     requires { ⌜ now kept ≡ sharedBits ⌝ }
@@ -239,7 +239,7 @@ fn look_at_rest(m: &[u32], kept: &[u32; SHARED_WORDS], stray: &mut [u32; 4])
     }
 }
 
-// All bits that word j has in any voice. Its bits are kept alike in all of them, so they are held against the mask once.
+// All bits that word j has in any voice. Its bits are kept alike in all of them, so they are held against those once.
 fn gather(m: &[u32], j: usize) -> u32
     requires { ⌜ length (now m) ≡ Words·RECORD_WORDS ⌝ }
     requires { ⌜ j < 20 ⌝ }

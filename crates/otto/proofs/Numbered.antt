@@ -11,7 +11,7 @@ use Rattle.registers.specs.Access.{Writes, Reads, SetsPot}
 use Rattle.frame.specs.Frame.{Frames}
 use Rattle.wave_in.specs.Import.{Imports}
 use Rattle.wave_in.specs.declared.Imported.{Imported}
-use Rattle.calls.specs.Calls.{Reset, Write, SetPot, Waiting, answerTo, after, givenBy, outputFrom}
+use Rattle.calls.specs.Calls.{Reset, Write, SetPot, answerTo, after, givenBy, outputFrom}
 use Rattle.otto.specs.Promises.{Calling, Reading, TellingWaiting, Framing, Importing}
 
 module _ {m later : List ℕ} {a : Answer} {n : ℕ} (number : n ≡ answerNumber a) where

@@ -1,11 +1,11 @@
 -- What a page and a register number name is a word before the mask and not the vector, a sum, or has no word. Assumes nothing.
 use mathlib.Core.Path.{_≡_}
-use Prim.Native.Nat.{ℕ, _+_, _-_, _*_, _<_}
+use Prim.Native.Nat.{ℕ, _+_, _-_, _<_}
 use native.Mathlib.Omega.{arith}
 use lib.Dec.{eqb, ltb}
 use borrow.Author.Tests.{eqb-false, ltb-true, ltb-false}
 use Rattle.numbers.proofs.Tests.{either}
-use Rattle.machine.specs.Words.{CR, START, O4N1, PAGE, IRQV, ACTV, MODE, W_ST, SUMS, voiceWord}
+use Rattle.machine.specs.Words.{CR, START, O4N1, PAGE, IRQV, ACTV, MODE, W_ST, voiceWord}
 use Rattle.registers.specs.Registers.{registerOf, lowPage, highPage, sumPage}
 use Rattle.registers.specs.Inside.{Inside}
 

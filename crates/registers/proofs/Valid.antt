@@ -14,7 +14,7 @@ use borrow.Author.Tests.{ltb-true}
 use Rattle.numbers.proofs.Tests.{either, all-at}
 use Rattle.control.specs.Control.{withBit, IRQ}
 use Rattle.control.proofs.Bits.{put-small}
-use Rattle.machine.specs.Words.{CR, PAGE, IRQV, PAR, WRITE_LATCH, READ_LATCH, voiceWord, voiceBits, sharedBits, bitsOf, cut, isVector, WAIT_MASK, RECORD_WORDS}
+use Rattle.machine.specs.Words.{CR, PAGE, IRQV, PAR, WRITE_LATCH, READ_LATCH, voiceWord, sharedBits, bitsOf, cut, isVector, WAIT_MASK, RECORD_WORDS}
 use Rattle.machine.proofs.Valid.{Sound, in-range, word-le, bits-voice, cut-again, range-set, sound-masked, sound-set}
 use Rattle.registers.specs.declared.Register.{Register}
 use Rattle.registers.specs.declared.Register.the-variants.{Word, Sum, Par, Irqv, Nothing}

@@ -22,7 +22,7 @@ use borrow.Author.Tests.{eqb-true, ne-eqb}
 use Rattle.numbers.proofs.Tests.{either}
 use Rattle.answer.specs.Answer.{isDone}
 use Rattle.answer.specs.declared.Answer.the-variants.{Address}
-use Rattle.machine.specs.Words.{PAGE, IRQV, WRITE_LATCH, SUMS, WAIT_MASK, sharedBits, bitsOf, cut, withMask}
+use Rattle.machine.specs.Words.{PAGE, IRQV, WRITE_LATCH, SUMS, sharedBits, bitsOf, cut, withMask}
 use Rattle.machine.proofs.Valid.{Sound}
 use Rattle.machine.proofs.Mask.{masked-word, masked-set, masked-after}
 use Rattle.registers.specs.declared.Register.{Register}

@@ -17,7 +17,7 @@ use borrow.Author.Tests.{ne-eqb, lt-ltb}
 use Rattle.numbers.specs.Sum.{sum}
 use Rattle.control.specs.Control.{bitOf, withBit, IRQ}
 use Rattle.control.proofs.Agree.{put-apart}
-use Rattle.machine.specs.Words.{PAGE, IRQV, ACTV, SLOW, SUMS, voiceBits, sharedBits, bitsOf, cut, cutTo, isVector, isTrueMask, waitingVoices, withMask, valid, WAIT_MASK, RECORD_WORDS}
+use Rattle.machine.specs.Words.{PAGE, IRQV, ACTV, SLOW, SUMS, sharedBits, bitsOf, cut, cutTo, isVector, isTrueMask, waitingVoices, withMask, valid, WAIT_MASK, RECORD_WORDS}
 use Rattle.machine.specs.Voices.{voiceAt, putVoice}
 use Rattle.machine.specs.Reset.{resetWord, wordsFrom, fresh}
 use Rattle.machine.proofs.Parts.{voice-same, voice-set-shared, put-length, put-same, put-other, put-out}

@@ -17,7 +17,7 @@ use Rattle.filter.specs.Filter.{lowPass, highPass, coefficient, pole3, pole4, f
 use Rattle.volume.specs.Volume.{mantissa, exponent, volumeOf, panned}
 use Rattle.channel.specs.Channel.{mixed, putOut}
 use Rattle.address.specs.Address.{raised, forwardEvent, reverseEvent, forward, reverse, stepped}
-use Rattle.machine.specs.Words.{CR, ACTV, SUMS, voiceBits, sharedBits, bitsOf, cut, cutTo, isVector, isTrueMask, waitingVoices, withMask, valid, WAIT_MASK, voiceWord}
+use Rattle.machine.specs.Words.{CR, ACTV, SUMS, sharedBits, bitsOf, cut, cutTo, isVector, isTrueMask, waitingVoices, withMask, valid, WAIT_MASK, voiceWord}
 use Rattle.machine.specs.Voices.{voiceAt, putVoice}
 use Rattle.machine.specs.Check.{checked}
 use Rattle.machine.specs.Reset.{resetAnswer, resetWord, wordsFrom, fresh}

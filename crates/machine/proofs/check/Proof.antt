@@ -8,7 +8,7 @@ use lib.ListN.{getD}
 use borrow.Author.Needs.{needs}
 use borrow.Author.Tests.{eq-eqb, ne-eqb, lt-ltb, le-ltb}
 use Rattle.answer.specs.declared.Answer.the-variants.{Done, RecordInvalid}
-use Rattle.machine.specs.Words.{voiceBits, sharedBits, isVector, IRQV}
+use Rattle.machine.specs.Words.{sharedBits, isVector, IRQV}
 use Rattle.machine.specs.Kept.{gatheredKept, clear, Lanes}
 use Rattle.machine.specs.Check.{checked}
 use Rattle.machine.proofs.Kept.{lanes-and-mask}

@@ -1,11 +1,10 @@
 -- `machine::gather_flags` meets its contract. The loop's invariant: the flags gathered are the mask's part from the last voice passed on, each as
 -- far up as CR has its flag. Assumes nothing.
-use mathlib.Core.Path.{_≡_, ap, _∙_}
+use mathlib.Core.Path.{_≡_, ap}
 use mathlib.Core.List.{List}
 use Prim.Native.Nat.{ℕ, _+_, _-_, _*_, _/_, _^_, _<_, _≤_}
 use native.Mathlib.Omega.{arith}
 use borrow.Author.Needs.{needs}
-use lib.ListN.{getD}
 use Rattle.machine.specs.Words.{waitingVoices}
 use Rattle.machine.proofs.Mask.{waiting-lt, flags-from, flags-small}
 use Rattle.machine.proofs.gather_flags.Statement.{statement}

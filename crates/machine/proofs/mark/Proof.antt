@@ -1,5 +1,5 @@
 -- `machine::mark` meets its contract. Assumes nothing.
-use mathlib.Core.Path.{_≡_, sym, ap, _∙_}
+use mathlib.Core.Path.{sym, ap, _∙_}
 use lib.ListN.{set}
 use borrow.Author.Needs.{needs}
 use Rattle.machine.specs.Words.{WAIT_MASK, withMask}

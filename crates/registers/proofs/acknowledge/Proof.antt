@@ -1,6 +1,6 @@
 -- `registers::acknowledge` meets its contract: a valid record's control register is a word of 16 bits, as `with_bit` asks, and its mask is true
 -- but for the flag that was cleared, as `mark` asks. Assumes nothing.
-use mathlib.Core.Path.{_≡_, ap, _∙_}
+use mathlib.Core.Path.{ap, _∙_}
 use Prim.Native.Nat.{_<_}
 use native.Mathlib.Omega.{arith}
 use lib.ListN.{length, getD, set, length-set}

@@ -1,16 +1,14 @@
 -- `registers::store_word` meets its contract: in a valid record the mask is true but for the flag that a control register takes, and it is true
 -- whatever another word takes. Assumes nothing.
 use mathlib.Core.Path.{_≡_, sym, ap, _∙_}
-use mathlib.Core.List.{List}
-use mathlib.Core.Logic.{_≢_}
-use Prim.Native.Nat.{ℕ, _/_, _%_, _<_}
+use Prim.Native.Nat.{_/_, _<_}
 use native.Mathlib.Omega.{arith}
 use lib.Bits.{bitAnd}
 use lib.ListN.{set, length-set}
 use lib.Seq.{getD-set-same, getD-set-other}
 use borrow.Author.Needs.{needs}
-use Rattle.control.specs.Control.{withBit, bitOf, IRQ}
-use Rattle.machine.specs.Words.{VOICES, CR, WAIT_MASK, cut, voiceWord, waitingVoices}
+use Rattle.control.specs.Control.{bitOf, IRQ}
+use Rattle.machine.specs.Words.{VOICES, CR, WAIT_MASK, cut, voiceWord}
 use Rattle.machine.proofs.Mask.{one-marked, masked-set}
 use Rattle.machine.proofs.Valid.{Sound, sound}
 use Rattle.registers.proofs.store_word.Statement.{statement}

@@ -1,5 +1,4 @@
 -- `score::command_of` meets its contract: each arm is the definition's case. Assumes nothing.
-use borrow.Author.Needs.{needs}
 use borrow.Author.Tests.{ne-eqb}
 use Rattle.score.specs.Score.{commandOf}
 use Rattle.score.proofs.command_of.Statement.{statement}
