@@ -199,7 +199,7 @@ static uint32_t word_of(uint32_t page, uint32_t number)
 static UNFOLD void flag(uint32_t *record, uint32_t v, uint32_t cr)
 {
     record[WORD_WAITING] =
-        (record[WORD_WAITING] & ~(1u << v)) | (cr >> 7 & 1) << v;
+        (record[WORD_WAITING] & ~(1u << v)) | cr / CR_IRQ % 2 << v;
 }
 
 static uint32_t write(uint32_t *record, size_t words, uint32_t address,

@@ -366,7 +366,8 @@ static void walk_loops(void)
 }
 
 /* One voice at one of the words about the end of a memory or of a bank, at a
-   whole sample or between two, plain or coded. */
+   whole sample or between two, plain or coded. It hardly moves, so that it is
+   there in the next frame too. */
 static void set_end(uint32_t v, uint32_t at, uint32_t words)
 {
     uint32_t first = v * VOICE_WORDS;
@@ -375,11 +376,13 @@ static void set_end(uint32_t v, uint32_t at, uint32_t words)
     uint32_t between = at / 8 % 2 == 0 ? 0 : random_below(2048);
 
     set_voice(v);
-    poke_kept(first + VOICE_CR, bank * CR_BS0 | at / 16 % 2 * CR_CMPD);
+    poke_kept(first + VOICE_CR,
+              bank * CR_BS0 | at / 16 % 2 * CR_CMPD | CR_LEI);
+    poke_kept(first + VOICE_FC, random_below(16));
     poke_kept(first + VOICE_ACCUM, (end + at / 32 - 2) * 2048u + between);
 }
 
-/* Each such place, and with it those of the two voices before. */
+/* Each such place, and with it that of the voice before. */
 static void walk_ends(void)
 {
     pair_poke(WORD_ACTV, VOICES - 1);
@@ -389,7 +392,7 @@ static void walk_ends(void)
         }
         for (uint32_t at = 0; at < 4 * VOICES; at++) {
             set_end(at % VOICES, at, (uint32_t)memory_lengths[i]);
-            poke_kept((at + VOICES - 3) % VOICES * VOICE_WORDS + VOICE_CR,
+            poke_kept((at + VOICES - 2) % VOICES * VOICE_WORDS + VOICE_CR,
                       random_once_in(2) ? CR_STP0 : CR_STP1);
             (void)pair_frame(WORDS, memory_lengths[i], OTTO_OUTPUT_VALUES);
         }

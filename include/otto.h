@@ -11,7 +11,7 @@
  * threads may call at once if neither lends a buffer that the other one's call
  * may change. A frame only reads sample memory: threads may share it, but not
  * while one of them imports into it. otto_waiting only reads the record:
- * threads may ask about one record at once, but not while another call on it
+ * threads may ask about one record at once, but not while any other call on it
  * runs.
  *
  * Every pointer must be aligned for its type, must point at as many values as
@@ -39,8 +39,6 @@ extern "C" {
 /* ---- sizes --------------------------------------------------------------- */
 
 #define OTTO_RECORD_WORDS      664u
-#define OTTO_WAIT_MASK         663u     /* the record's word that otto_waiting
-                                           answers */
 #define OTTO_OUTPUT_VALUES     12u      /* channels 0 to 5, left then right */
 #define OTTO_MOST_MEMORY_WORDS 8388608u /* four banks of 2,097,152 words */
 #define OTTO_MOST_FILE_BYTES   65536u   /* of a WAVE file */
@@ -92,8 +90,9 @@ uint32_t otto_write(uint32_t *record, size_t words, uint32_t address,
  * The host reads one byte, into *byte. Reading byte 0 takes the whole register
  * into a latch, and all four bytes are read from there: to read a register,
  * read its bytes 0 to 3 in order. Byte 0 of the interrupt vector, register 14,
- * also takes the waiting interrupt; byte 0 of the pot result, register 13,
- * also takes the result. So this call changes the record.
+ * also takes the interrupt that is in it: the voice's IRQ bit becomes 0, and
+ * the vector is empty. Byte 0 of the pot result, register 13, also takes the
+ * result. So this call changes the record.
  *
  * Refusals: 1, 2, 3.
  */
@@ -132,24 +131,32 @@ uint32_t otto_frame(uint32_t *record, size_t words, const uint16_t *memory,
                     size_t memory_words, int32_t *output,
                     size_t output_values, uint32_t *missing);
 
+/* The record's word that has the mask of the waiting voices. */
+#define OTTO_WAIT_MASK 663u
+
 /*
  * Which voices wait, as a mask: bit v is the IRQ bit of voice v, bit 7 of its
  * CR. All 32 voices count, active or not. *mask is always set, to 0 where the
  * call is refused.
  *
+ * A voice comes to wait by a loop event while IRQE is set in its CR, or by a CR
+ * that the host writes with IRQ set; a CR written without IRQ takes it out of
+ * the mask, but not out of the vector.
+ *
  * The call changes nothing and takes nothing, however often it is made. An
- * interrupt is taken by reading byte 0 of the vector, register 14, which names
- * one voice at a time: that clears the voice's bit in CR and in the mask. After
- * a frame that found the vector free, it names the lowest active voice of the
- * mask, if there is one. A voice comes to wait by a loop event while IRQE is
- * set in its CR, or by a CR that the host writes with IRQ set; a CR written
- * without IRQ takes it out of the mask, but not out of the vector.
+ * interrupt is taken by reading byte 0 of the vector, register 14. The vector
+ * names one voice at a time, and takes the next only in a frame: after a frame
+ * that found it empty, it names the lowest active voice of the mask, if there
+ * is one. So a host reads it once after a frame, and not until the mask is 0: a
+ * voice that is not active does not enter it, and stays in the mask until its
+ * CR is written without IRQ, or it is active again and its interrupt taken.
  *
  * The mask is a word of the record, and every call keeps it true; a reset makes
  * it 0. Between calls a host may look at record[OTTO_WAIT_MASK] itself; no
- * register shows it. A host that changes the word of a CR in the record itself
- * must keep the mask true: where a bit of it is not that voice's IRQ bit, every
- * call on the record but otto_reset is refused with 2.
+ * register shows it. A host that stores into CR itself, which for voice v is
+ * record[20 * v], or brings a record from elsewhere, must make the mask true:
+ * where bit v of it is not bit 7 of record[20 * v], for any v from 0 to 31,
+ * every call on the record but otto_reset is refused with 2.
  *
  * Refusals: 1, 2.
  */

@@ -5,7 +5,7 @@ use Prim.Native.Nat.{ℕ}
 use lib.IntN.{ℤ}
 use Rattle.answer.specs.declared.Answer.{Answer}
 use Rattle.machine.specs.Reset.{Resets}
-use Rattle.machine.specs.Waiting.{Waits}
+use Rattle.machine.specs.Waiting.{TellsWaiting}
 use Rattle.registers.specs.Access.{Writes, Reads, SetsPot}
 use Rattle.frame.specs.Frame.{Frames}
 use Rattle.calls.specs.Calls.{answerTo, after, givenBy, outputFrom}
@@ -29,7 +29,7 @@ module _ (m memory : List ℕ) (out : List ℤ) {r : Answer} {later : List ℕ} 
   unfolding answerTo after givenBy
   sets-pot n p = record { answers = p .answers; gives = refl; leaves = p .leaves; sounds = refl }
 
-  pub tells-waiting : {x : ℕ} → later ≡ m → Waits m r x → Performs m memory out Ask.Waiting r x later out
+  pub tells-waiting : {x : ℕ} → later ≡ m → TellsWaiting m r x → Performs m memory out Ask.Waiting r x later out
   unfolding answerTo after givenBy
   tells-waiting e p = record { answers = p .answers; gives = p .gives; leaves = e; sounds = refl }
 

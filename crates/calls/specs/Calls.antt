@@ -6,7 +6,7 @@ use mathlib.Core.List.{List, [], _∷_, _++_}
 use lib.IntN.{ℤ}
 use Rattle.answer.specs.declared.Answer.{Answer}
 use Rattle.machine.specs.Reset.{resetAnswer, resetRecord}
-use Rattle.machine.specs.Waiting.{waitingAnswer, waitingMask}
+use Rattle.machine.specs.Waiting.{waitingAnswer, maskGiven}
 use Rattle.registers.specs.Access.{byteAnswer, writeRecord, readRecord, readByte, potAnswer, potRecord}
 use Rattle.frame.specs.Frame.{frameAnswer, frameRecord, frameOutput, frameMissing}
 
@@ -42,7 +42,7 @@ givenBy m Reset = 0
 givenBy m (Write a b) = 0
 givenBy m (Read a) = readByte m a
 givenBy m (SetPot p) = 0
-givenBy m Waiting = waitingMask m
+givenBy m Waiting = maskGiven m
 givenBy m (Frame memory out) = frameMissing m memory out
 
 -- the output that a frame leaves; another call is lent none

@@ -1,4 +1,5 @@
 // A call as a value, performed on a record: the six calls that take a record, in one.
+ghost use mathlib.Core.Path.{_≡_};
 ghost use Rattle.calls.specs.Asks.{Performs};
 use answer::Answer;
 
@@ -23,14 +24,8 @@ pub fn perform(m: &mut [u32], ask: Ask, memory: &[u16], out: &mut [i32]) -> Repl
     ensures { λ r. ⌜ Performs (now (m .entry)) (now (memory .entry)) (now (out .entry)) ask (r .answer) (r .given) (now (m .exit)) (now (out .exit)) ⌝ }
 {
     match ask {
-        Ask::Reset => Reply {
-            answer: machine::reset(m),
-            given: 0,
-        },
-        Ask::Write(a, b) => Reply {
-            answer: registers::write(m, a, b),
-            given: 0,
-        },
+        Ask::Reset => no_number(machine::reset(m)),
+        Ask::Write(a, b) => no_number(registers::write(m, a, b)),
         Ask::Read(a) => {
             let got = registers::read(m, a);
             let answer = got.answer;
@@ -39,16 +34,13 @@ pub fn perform(m: &mut [u32], ask: Ask, memory: &[u16], out: &mut [i32]) -> Repl
                 given: got.byte as u32,
             }
         }
-        Ask::SetPot(p) => Reply {
-            answer: registers::set_pot(m, p),
-            given: 0,
-        },
+        Ask::SetPot(p) => no_number(registers::set_pot(m, p)),
         Ask::Waiting => {
-            let waiters = machine::waiting(m);
-            let answer = waiters.answer;
+            let told = machine::waiting(m);
+            let answer = told.answer;
             Reply {
                 answer: answer,
-                given: waiters.mask,
+                given: told.mask,
             }
         }
         Ask::Frame => {
@@ -59,5 +51,15 @@ pub fn perform(m: &mut [u32], ask: Ask, memory: &[u16], out: &mut [i32]) -> Repl
                 given: framed.missing,
             }
         }
+    }
+}
+
+// What a call replies that gives no number.
+fn no_number(answer: Answer) -> Reply
+    ensures { λ r. ⌜ (r .answer ≡ answer) × (r .given ≡ 0) ⌝ }
+{
+    Reply {
+        answer: answer,
+        given: 0,
     }
 }

@@ -1,4 +1,5 @@
--- Bits of a word: a word by its parts above, at and below a bit; what a put bit leaves, in its range too; reading bit m after bit n was put.
+-- Bits of a word: a word by its parts above, at and below a bit; a bit set by an OR, and put once it is set; what a put bit leaves, in its range too;
+-- reading bit m after bit n was put; the same of flags.
 -- Assumes nothing.
 use mathlib.Core.Path.{_≡_, sym, ap, ap₂, subst, _∙_}
 use mathlib.Core.Bool.{true, false}

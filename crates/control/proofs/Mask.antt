@@ -1,4 +1,4 @@
--- A mask: bits side by side in one word, bit v being f v, for v below n.
+-- A mask, bits side by side in one word: bit v is f v, for v below n.
 -- In order: it has n bits (`mask-lt`); each of its bits (`mask-bit`); one bit changed (`mask-changed`). Assumes nothing.
 use mathlib.Core.Path.{_≡_, ap, _∙_}
 use mathlib.Core.Logic.{_≢_}
@@ -8,11 +8,8 @@ use native.Mathlib.Nat.{not-suc-le-zero, pow-suc, mul-le-mul-right, div-eq-of-lt
 use native.Mathlib.Omega.{arith}
 use Rattle.numbers.specs.Sum.{sum}
 use Rattle.numbers.proofs.Sum.{sum-changed}
-use Rattle.control.specs.Control.{bitOf, withBit}
+use Rattle.control.specs.Control.{bitOf, withBit, maskOf}
 use Rattle.control.proofs.Bits.{bit-within, read-put, read-other}
-
-abbrev pub maskOf : ℕ → (ℕ → ℕ) → ℕ
-maskOf n f = sum n (λ v. f v * 2 ^ v)
 
 module _ (f : ℕ → ℕ) (bit : (v : ℕ) → f v ≤ 1) where
   pub mask-lt : (n : ℕ) → maskOf n f < 2 ^ n

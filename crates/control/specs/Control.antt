@@ -1,8 +1,9 @@
--- The control register of a voice: the number of each bit, a bit read, a bit put, and the fields of more than one bit.
+-- The control register of a voice: the number of each bit, a bit read, a bit put, bits side by side, and the fields of more than one bit.
 -- Assumes nothing.
 use Prim.Native.Nat.{ℕ, _+_, _-_, _*_, _/_, _%_, _^_}
 use mathlib.Core.Bool.{Bool, not, _&&_}
 use lib.Dec.{eqb}
+use Rattle.numbers.specs.Sum.{sum}
 
 -- stopped by the voice itself at a loop point, and by the host
 abbrev pub STP0 : ℕ
@@ -52,6 +53,10 @@ flagOf n w = eqb (bitOf n w) 1
 -- the word with bit n put to b, which is 0 or 1
 unfoldable pub withBit : ℕ → ℕ → ℕ → ℕ
 withBit n b w = w - bitOf n w * 2 ^ n + b * 2 ^ n
+
+-- n bits side by side in one word: bit v is f v
+abbrev pub maskOf : ℕ → (ℕ → ℕ) → ℕ
+maskOf n f = sum n (λ v. f v * 2 ^ v)
 
 -- CA2 .. CA0, the channel; BS1 BS0, the bank
 abbrev pub channelOf : ℕ → ℕ

@@ -43,7 +43,7 @@ pub fn flag(n: u32, w: u32) -> bool
     bit(n, w) == 1
 }
 
-// The word with bit n put to b, of any 32 bits. The bit is set first, so that where b is 1 one instruction does it, whatever n is.
+// The word with bit n put to b, of any 32 bits. The bit is set first, and taken off where b is 0: so where b is 1 nothing has to be cleared before.
 pub fn put(n: u32, b: u32, w: u32) -> u32
     requires { ⌜ n < 32 ⌝ }
     requires { ⌜ b ≤ 1 ⌝ }

@@ -21,10 +21,10 @@ use Rattle.sample.specs.Sample.{firstAt, secondAt, sampleOf, fetched, fraction,
 use Rattle.voice.specs.Turn.{lastOutputs, rampedLevels, withOutputs, moved, stoppedTurn, sampled, runningTurn, turnOf}
 use Rattle.answer.specs.declared.Answer.{Answer}
 use Rattle.answer.specs.declared.Answer.the-variants.{Done}
-use Rattle.machine.specs.Words.{CR, ACCUM, ACTV, voiceWord, sharedBits, bitsOf, cut, cutTo, isVector, isTrueMask, waitingVoices, withMask, valid, WAIT_MASK}
+use Rattle.machine.specs.Words.{CR, ACCUM, ACTV, voiceWord, sharedBits, bitsOf, cut, cutTo, isVector, hasTrueMask, waitingVoices, withMask, valid, IRQV, WAIT_MASK, NO_INTERRUPT}
 use Rattle.machine.specs.Voices.{voiceAt, putVoice}
 use Rattle.machine.specs.Check.{checked}
-use Rattle.machine.specs.Waiting.{waitingMask}
+use Rattle.machine.specs.Waiting.{maskGiven}
 use Rattle.machine.specs.Reset.{resetAnswer, resetWord, wordsFrom, fresh}
 use Rattle.voice.specs.Voice.{wordsOf}
 use Rattle.voice.specs.Missed.{missedBy}
@@ -59,7 +59,7 @@ playing v (w ∷ ws) = putVoice (playing (suc v) ws) v w
 
 -- what a frame answers, says to be missing, leaves and puts out; all that it computes by is named here, once
 unfoldable pub framed : List ℕ → Answer × (ℕ × (List ℕ × List ℤ))
-unfolding floorDiv floorMod signed word held bitOf flagOf withBit runs lowPass highPass coefficient pole3 pole4 filtered mantissa exponent volumeOf panned mixed putOut increment ramped slowRamped raised forwardEvent forward stepped firstAt secondAt sampleOf fetched fraction interpolated lastOutputs rampedLevels withOutputs moved stoppedTurn sampled runningTurn turnOf sharedBits bitsOf cut cutTo isVector isTrueMask waitingVoices withMask valid voiceAt putVoice resetAnswer checked resetWord wordsFrom fresh wordsOf addedTo added signalled turnAt turns heard silenced closed played frameAnswer frameRecord frameOutput missingOf missedBy sum missedIn frameMissing
+unfolding floorDiv floorMod signed word held bitOf flagOf withBit runs lowPass highPass coefficient pole3 pole4 filtered mantissa exponent volumeOf panned mixed putOut increment ramped slowRamped raised forwardEvent forward stepped firstAt secondAt sampleOf fetched fraction interpolated lastOutputs rampedLevels withOutputs moved stoppedTurn sampled runningTurn turnOf sharedBits bitsOf cut cutTo isVector hasTrueMask waitingVoices withMask valid voiceAt putVoice resetAnswer checked resetWord wordsFrom fresh wordsOf addedTo added signalled turnAt turns heard silenced closed played frameAnswer frameRecord frameOutput missingOf missedBy sum missedIn frameMissing
 framed m = (frameAnswer m memory silence, (frameMissing m memory silence, (frameRecord m memory silence, frameOutput m memory silence)))
 
 abbrev left : List (List ℕ) → ℤ
@@ -153,13 +153,18 @@ two-heard = refl
 -- ---- a voice that waits
 
 -- stopped, with its flag set, and so in the mask
-abbrev pub waiting : List ℕ
-waiting = set (set fresh (voiceWord 0 CR) 131) WAIT_MASK 1
+abbrev pub flagged : List ℕ
+flagged = set (set fresh (voiceWord 0 CR) 131) WAIT_MASK 1
 
-pub waiting-valid : valid waiting ≡ true
+pub flagged-valid : valid flagged ≡ true
 unfolding framed
-waiting-valid = refl
+flagged-valid = refl
 
-pub one-waits : waitingMask waiting ≡ 1
-unfolding framed waitingMask
+pub one-waits : maskGiven flagged ≡ 1
+unfolding framed maskGiven
 one-waits = refl
+
+-- the frame puts it into the empty vector, which stays empty where no voice waits
+pub vectors-after : (getD (frameRecord flagged memory silence) IRQV 0 ≡ 0) × (getD (frameRecord one memory silence) IRQV 0 ≡ NO_INTERRUPT)
+unfolding framed
+vectors-after = (refl, refl)

@@ -16,7 +16,7 @@ use Rattle.frame.specs.Frame.{frameRecord, frameOutput}
 use Rattle.frame.proofs.Answered.{done-frame}
 use Rattle.calls.specs.Calls.{answerTo, after, givenBy, outputFrom}
 use Rattle.engines.specs.Engines.{U16, I32, Lent, Outcome, Engine, Meets, Keeps, defined, RefusesAll, PutsOutZeros, MissesNothing, TellsNone, NeverChanges, Repeats}
-use Rattle.engines.proofs.Heard.{one, memory, short, silence, framed, one-done, one-heard, one-missing, one-stepped, two-heard, waiting, waiting-valid, one-waits}
+use Rattle.engines.proofs.Heard.{one, memory, short, silence, framed, one-done, one-heard, one-missing, one-stepped, two-heard, flagged, flagged-valid, one-waits}
 use Rattle.engines.proofs.Lent.{all-joined, all-copies, valid-words, lent-again}
 use Rattle.calls.specs.declared.Ask.{Ask}
 use Rattle.calls.specs.declared.Ask.the-variants as Ask
@@ -52,8 +52,8 @@ short-lent : Lent one short silence Ask.Frame
 short-lent = record { words = one-lent .words; samples = all-copies U16 6 32767 (lit< tt); values = one-lent .values; asked = tt }
 
 -- a record in which a voice waits can be lent, with nothing beside it
-waiting-lent : Lent waiting [] [] Ask.Waiting
-waiting-lent = record { words = valid-words waiting waiting-valid; samples = tt; values = tt; asked = tt }
+flagged-lent : Lent flagged [] [] Ask.Waiting
+flagged-lent = record { words = valid-words flagged flagged-valid; samples = tt; values = tt; asked = tt }
 
 -- the first value heard, without its sign
 leftmost : List ℤ → ℕ
@@ -81,7 +81,7 @@ module _ (e : Engine) (keeps : Keeps e) where
   pub not-telling-none : TellsNone e → ⊥
   unfolding givenBy
   not-telling-none h =
-      let p : _≡_ {A = ℕ} 1 0 = sym one-waits ∙ sym (keeps waiting [] [] Ask.Waiting waiting-lent .gives) ∙ h waiting [] [] waiting-lent in
+      let p : _≡_ {A = ℕ} 1 0 = sym one-waits ∙ sym (keeps flagged [] [] Ask.Waiting flagged-lent .gives) ∙ h flagged [] [] flagged-lent in
       omega arith
 
   pub not-frozen : NeverChanges e → ⊥

@@ -1,7 +1,8 @@
--- The vector after a frame that found it empty is the lowest active voice of the mask as the frame left it, or it is still empty (`frame-vector`).
+-- The vector after a frame that found it empty is the lowest active voice of the mask as the frame left it, or it is still empty (`frame-vector`); there
+-- is one such vector (`one-lowest`).
 -- In order: the lowest of the voices that had their turn; one turn more; all turns; the closing, and the mask for the flags. Assumes nothing.
 use mathlib.Core.Path.{_≡_, refl, sym, ap, subst, _∙_}
-use mathlib.Core.Bool.{Bool, true, false, cond, _&&_}
+use mathlib.Core.Bool.{Bool, true, false, cond, _&&_, false≢true}
 use mathlib.Core.List.{List}
 use Prim.Native.Nat.{ℕ, zero, suc, _<_, _≤_}
 use native.Mathlib.Nat.{not-suc-le-zero}
@@ -96,7 +97,7 @@ module _ (memory m : List ℕ) (s : Sound m) (e : getD m IRQV 0 ≡ NO_INTERRUPT
   by-mask : (x : ℕ) → Lowest (played memory m) (suc (getD m ACTV 0)) x → LowestOf (getD last WAIT_MASK 0) (getD last ACTV 0) x
   by-mask x (found v l w below) =
       let a = active-le m s in
-      lowest v (omega (arith, active-same)) (told v (omega arith) ∙ w) (λ u b. told u (omega arith) ∙ below u b)
+      lowest v (omega (arith, active-same)) (told v (omega arith) ∙ w) (λ u b. told u (omega (arith, active-same)) ∙ below u b)
   by-mask x (nobody f) = let a = active-le m s in none (λ u b. told u (omega (arith, active-same)) ∙ f u (omega (arith, active-same)))
 
   closed-vector : LowestOf (getD last WAIT_MASK 0) (getD last ACTV 0) (getD last IRQV 0)
@@ -111,3 +112,12 @@ pub frame-vector : (m memory : List ℕ) (out : List ℤ) → frameAnswer m memo
     → let n = frameRecord m memory out in LowestOf (getD n WAIT_MASK 0) (getD n ACTV 0) (getD n IRQV 0)
 unfolding frameRecord
 frame-vector m memory out d e = rw d (closed-vector memory m (done-frame m memory out d .machine) e)
+
+-- the statement leaves no choice
+pub one-lowest : {mask active x y : ℕ} → LowestOf mask active x → LowestOf mask active y → x ≡ y
+one-lowest (lowest v h t below) (lowest u k s under) = cases v u (v ≡ u)
+    (λ l. absurd (false≢true (sym (under v l) ∙ t)))
+    (λ l. cases u v (v ≡ u) (λ g. absurd (false≢true (sym (below u g) ∙ s))) (λ g. omega arith))
+one-lowest (lowest v h t below) (none f) = absurd (false≢true (sym (f v h) ∙ t))
+one-lowest (none f) (lowest v h t below) = absurd (false≢true (sym (f v h) ∙ t))
+one-lowest (none f) (none g) = refl

@@ -11,10 +11,10 @@ use Rattle.answer.specs.declared.Answer.{Answer}
 use Rattle.answer.specs.declared.Answer.the-variants.{Done, RecordLength, RecordInvalid}
 use Rattle.answer.proofs.Refusals.{none-holds}
 use Rattle.control.specs.Control.{flagOf}
-use Rattle.machine.specs.Words.{cutTo, isVector, isTrueMask, valid, waits, waitingVoices, IRQV, VOICES, WAIT_MASK, RECORD_WORDS}
+use Rattle.machine.specs.Words.{cutTo, isVector, hasTrueMask, valid, waits, waitingVoices, IRQV, VOICES, WAIT_MASK, RECORD_WORDS}
 use Rattle.machine.specs.Check.{wrongLength, notValid, checked}
 use Rattle.machine.specs.Reset.{resetAnswer, fresh, resetRecord, Resets}
-use Rattle.machine.specs.Waiting.{waitingAnswer, waitingMask, Waits}
+use Rattle.machine.specs.Waiting.{waitingAnswer, maskGiven, TellsWaiting}
 use Rattle.machine.proofs.Mask.{flag-waits, none-waits, waits-none}
 use Rattle.machine.proofs.Valid.{both, Sound, sound, is-valid}
 
@@ -31,20 +31,20 @@ module _ (m : List ℕ) where
   unfolding checked
   check-size h = rw (ne-eqb (length m) RECORD_WORDS h)
 
-  pub check-stray : length m ≡ RECORD_WORDS → (cutTo m RECORD_WORDS && isTrueMask m) ≡ false → checked m ≡ RecordInvalid
+  pub check-stray : length m ≡ RECORD_WORDS → (cutTo m RECORD_WORDS && hasTrueMask m) ≡ false → checked m ≡ RecordInvalid
   unfolding checked valid
   check-stray h k = rw (
     eq-eqb (length m) RECORD_WORDS h,
-    and-comm (isVector (getD m IRQV 0)) (isTrueMask m),
-    ← (and-assoc (cutTo m RECORD_WORDS) (isTrueMask m) (isVector (getD m IRQV 0))),
+    and-comm (isVector (getD m IRQV 0)) (hasTrueMask m),
+    ← (and-assoc (cutTo m RECORD_WORDS) (hasTrueMask m) (isVector (getD m IRQV 0))),
     k,
   )
 
-  pub check-vector : length m ≡ RECORD_WORDS → (cutTo m RECORD_WORDS && isTrueMask m) ≡ true → (b : Bool) → isVector (getD m IRQV 0) ≡ b
+  pub check-vector : length m ≡ RECORD_WORDS → (cutTo m RECORD_WORDS && hasTrueMask m) ≡ true → (b : Bool) → isVector (getD m IRQV 0) ≡ b
       → checked m ≡ cond b Done RecordInvalid
   unfolding checked valid
-  check-vector h k true q = let p = both (cutTo m RECORD_WORDS) (isTrueMask m) k in rw (eq-eqb (length m) RECORD_WORDS h, p .0, p .1, q)
-  check-vector h k false q = let p = both (cutTo m RECORD_WORDS) (isTrueMask m) k in rw (eq-eqb (length m) RECORD_WORDS h, p .0, q)
+  check-vector h k true q = let p = both (cutTo m RECORD_WORDS) (hasTrueMask m) k in rw (eq-eqb (length m) RECORD_WORDS h, p .0, p .1, q)
+  check-vector h k false q = let p = both (cutTo m RECORD_WORDS) (hasTrueMask m) k in rw (eq-eqb (length m) RECORD_WORDS h, p .0, q)
 
 -- the other way round: neither of the check's tests holds of a sound record, and of no other
 pub sound-tests : (m : List ℕ) → Sound m → (wrongLength m ≡ false) × (notValid m ≡ false)
@@ -75,29 +75,29 @@ one-reset p q = (p .answers ∙ sym (q .answers), p .leaves ∙ sym (q .leaves))
 
 -- ---- which voices wait
 
-pub waiting-refused : (m : List ℕ) (r : Answer) → r ≡ checked m → isDone r ≡ false → Waits m r 0
-unfolding waitingMask
+pub waiting-refused : (m : List ℕ) (r : Answer) → r ≡ checked m → isDone r ≡ false → TellsWaiting m r 0
+unfolding maskGiven
 waiting-refused m r e h = record { answers = e; gives = rw (← e, h) }
 
-pub waiting-done : (m : List ℕ) → Done ≡ checked m → Waits m Done (getD m WAIT_MASK 0)
-unfolding waitingMask
+pub waiting-done : (m : List ℕ) → Done ≡ checked m → TellsWaiting m Done (getD m WAIT_MASK 0)
+unfolding maskGiven
 waiting-done m e = record { answers = e; gives = rw (← e) }
 
 -- two outcomes that the promise allows are equal
-pub one-waiting : {m : List ℕ} {a b : Answer} {x y : ℕ} → Waits m a x → Waits m b y → (a ≡ b) × (x ≡ y)
+pub one-waiting : {m : List ℕ} {a b : Answer} {x y : ℕ} → TellsWaiting m a x → TellsWaiting m b y → (a ≡ b) × (x ≡ y)
 one-waiting p q = (p .answers ∙ sym (q .answers), p .gives ∙ sym (q .gives))
 
 -- For hosts: a call that is done gives a mask whose bit v is set exactly where voice v waits; so it is 0 exactly where no voice does.
 module _ (m : List ℕ) (done : waitingAnswer m ≡ Done) where
-  mask-given : waitingMask m ≡ waitingVoices m
-  unfolding waitingMask
+  mask-given : maskGiven m ≡ waitingVoices m
+  unfolding maskGiven
   mask-given = rw done (not-refused m done .mask)
 
-  pub bit-given : (v : ℕ) → v < VOICES → flagOf v (waitingMask m) ≡ waits m v
+  pub bit-given : (v : ℕ) → v < VOICES → flagOf v (maskGiven m) ≡ waits m v
   bit-given v h = ap (flagOf v) mask-given ∙ flag-waits m v h
 
-  pub none-given : waitingMask m ≡ 0 → (v : ℕ) → v < VOICES → waits m v ≡ false
+  pub none-given : maskGiven m ≡ 0 → (v : ℕ) → v < VOICES → waits m v ≡ false
   none-given e = none-waits m (sym mask-given ∙ e)
 
-  pub given-none : ((v : ℕ) → v < VOICES → waits m v ≡ false) → waitingMask m ≡ 0
+  pub given-none : ((v : ℕ) → v < VOICES → waits m v ≡ false) → maskGiven m ≡ 0
   given-none f = mask-given ∙ waits-none m f

@@ -8,7 +8,7 @@ use lib.ListN.{length, getD}
 use lib.Seq.{ext-getD}
 use Rattle.numbers.specs.Sum.{sum}
 use Rattle.control.specs.Control.{bitOf}
-use Rattle.machine.specs.Words.{valid, cutTo, cut, bitsOf, sharedBits, isVector, isTrueMask, waitingVoices, RECORD_WORDS}
+use Rattle.machine.specs.Words.{valid, cutTo, cut, bitsOf, sharedBits, isVector, hasTrueMask, waitingVoices, RECORD_WORDS}
 use Rattle.machine.specs.Reset.{resetWord, wordsFrom, fresh}
 
 from-length : (f : ℕ → ℕ) (i n : ℕ) → length (wordsFrom f i n) ≡ n
@@ -35,5 +35,5 @@ pub is-fresh : (m : List ℕ) → length m ≡ RECORD_WORDS → ((k : ℕ) → k
 is-fresh m h f = ext-getD 0 m fresh (h ∙ sym fresh-length) (λ k l. let q : k < RECORD_WORDS = rw h at l in f k q ∙ sym (fresh-at k q))
 
 pub fresh-valid : valid fresh ≡ true
-unfolding valid cutTo cut bitsOf sharedBits isVector isTrueMask waitingVoices sum bitOf fresh wordsFrom resetWord
+unfolding valid cutTo cut bitsOf sharedBits isVector hasTrueMask waitingVoices sum bitOf fresh wordsFrom resetWord
 fresh-valid = refl

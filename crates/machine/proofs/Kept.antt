@@ -14,7 +14,7 @@ use lib.Dec.{eqb, eqb→eq}
 use lib.ListN.{length, getD, set, length-set}
 use borrow.Author.Tests.{eq-eqb, ne-eqb, eqb-true, eqb-false, le-ltb}
 use Rattle.numbers.proofs.Tests.{all-at}
-use Rattle.machine.specs.Words.{PAGE, SUMS, WAIT_MASK, bits, voiceBits, sharedBits, bitsOf, waitingVoices, isTrueMask}
+use Rattle.machine.specs.Words.{PAGE, SUMS, WAIT_MASK, bits, voiceBits, sharedBits, bitsOf, waitingVoices, hasTrueMask}
 use Rattle.machine.specs.Kept.{among, keptAt, gathered, inVoices, inSums, gatheredKept, sumsKept, threeKept, sharedKept, clear, Lanes}
 
 or-zero : (a b : ℕ) → bitOr a b ≡ 0 → (a ≡ 0) × (b ≡ 0)
@@ -214,8 +214,8 @@ four-lanes {s} p = clear-four s (p .four) ∙ p .tell
 
 -- and with them the bits in which the mask is false, where y is what it has to be
 pub lanes-and-mask : {s : List ℕ} {t : Bool} (m : List ℕ) (y : ℕ) → Lanes s t → y ≡ waitingVoices m
-    → eqb (bitOr (bitOr (bitOr (bitOr (getD s 0 0) (getD s 1 0)) (getD s 2 0)) (getD s 3 0)) (bitXor (getD m WAIT_MASK 0) y)) 0 ≡ (t && isTrueMask m)
-unfolding isTrueMask
+    → eqb (bitOr (bitOr (bitOr (bitOr (getD s 0 0) (getD s 1 0)) (getD s 2 0)) (getD s 3 0)) (bitXor (getD m WAIT_MASK 0) y)) 0 ≡ (t && hasTrueMask m)
+unfolding hasTrueMask
 lanes-and-mask {s} {t} m y p e =
     let x = getD m WAIT_MASK 0 in
     let lanes : Tells (bitOr (bitOr (bitOr (getD s 0 0) (getD s 1 0)) (getD s 2 0)) (getD s 3 0)) t = record { tells = four-lanes p } in

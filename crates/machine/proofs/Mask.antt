@@ -18,18 +18,14 @@ use Rattle.numbers.proofs.Sum.{sum-ext, sum-zeros}
 use Rattle.control.specs.Control.{bitOf, flagOf, withBit, IRQ}
 use Rattle.control.proofs.Bits.{bit-le, joined, no-flag-bit}
 use Rattle.control.proofs.Mask.{mask-lt, mask-bit, mask-changed}
-use Rattle.machine.specs.Words.{RECORD_WORDS, VOICES, PAGE, CR, WAIT_MASK, voiceWord, waits, waitingVoices, withMask}
+use Rattle.machine.specs.Words.{RECORD_WORDS, VOICES, PAGE, CR, WAIT_MASK, voiceWord, flagBit, waits, waitingVoices, withMask}
 use Rattle.machine.specs.Voices.{voiceAt}
 use Rattle.machine.proofs.Parts.{voice-set-shared}
-
--- the interrupt flag of voice v as a bit
-abbrev flagBit : List ℕ → ℕ → ℕ
-flagBit m v = bitOf IRQ (getD m (voiceWord v CR) 0)
 
 -- ---- its bits
 
 module _ (m : List ℕ) where
-  pub bit-waits : (v : ℕ) → v < VOICES → bitOf v (waitingVoices m) ≡ bitOf IRQ (getD m (voiceWord v CR) 0)
+  pub bit-waits : (v : ℕ) → v < VOICES → bitOf v (waitingVoices m) ≡ flagBit m v
   unfolding waitingVoices
   bit-waits v h = mask-bit (flagBit m) (λ u. bit-le IRQ (getD m (voiceWord u CR) 0)) VOICES v h
 
@@ -53,7 +49,7 @@ module _ (m : List ℕ) where
       (λ v h. ap (λ (x : ℕ). x * 2 ^ v) (no-flag-bit IRQ (getD m (voiceWord v CR) 0) (f v h)) ∙ zero-mul (2 ^ v))
 
   -- its part from voice v on, by the voice's flag and the part after it
-  pub flags-from : (v : ℕ) → v < VOICES → 2 * (waitingVoices m / 2 ^ (v + 1)) + bitOf IRQ (getD m (voiceWord v CR) 0) ≡ waitingVoices m / 2 ^ v
+  pub flags-from : (v : ℕ) → v < VOICES → 2 * (waitingVoices m / 2 ^ (v + 1)) + flagBit m v ≡ waitingVoices m / 2 ^ v
   flags-from v h = sym (joined v (waitingVoices m) ∙ ap (λ (x : ℕ). 2 * (waitingVoices m / 2 ^ (v + 1)) + x) (bit-waits v h))
 
   pub flags-small : (v : ℕ) → waitingVoices m / 2 ^ v < 2 ^ 32
@@ -64,7 +60,7 @@ module _ (m : List ℕ) where
 -- n has the control registers of m, but that of voice v may be another
 pub one-flag : (m n : List ℕ) (v : ℕ) → v < VOICES
     → ((u : ℕ) → u < VOICES → u ≢ v → getD n (voiceWord u CR) 0 ≡ getD m (voiceWord u CR) 0)
-    → waitingVoices n ≡ withBit v (bitOf IRQ (getD n (voiceWord v CR) 0)) (waitingVoices m)
+    → waitingVoices n ≡ withBit v (flagBit n v) (waitingVoices m)
 unfolding waitingVoices
 one-flag m n v h e =
     mask-changed (flagBit m) (flagBit n) (λ u. bit-le IRQ (getD m (voiceWord u CR) 0)) VOICES v h (λ u l d. ap (bitOf IRQ) (e u l d))
@@ -84,7 +80,7 @@ set-shared m i x h = set-flags m i x (λ u l e. omega arith)
 
 -- so where the mask of m was true, and n has it still, that voice's bit makes it true of n
 pub one-marked : (m n : List ℕ) (v b : ℕ) → getD m WAIT_MASK 0 ≡ waitingVoices m → getD n WAIT_MASK 0 ≡ getD m WAIT_MASK 0 → v < VOICES
-    → ((u : ℕ) → u < VOICES → u ≢ v → getD n (voiceWord u CR) 0 ≡ getD m (voiceWord u CR) 0) → bitOf IRQ (getD n (voiceWord v CR) 0) ≡ b
+    → ((u : ℕ) → u < VOICES → u ≢ v → getD n (voiceWord u CR) 0 ≡ getD m (voiceWord u CR) 0) → flagBit n v ≡ b
     → waitingVoices n ≡ withBit v b (getD n WAIT_MASK 0)
 one-marked m n v b t s h e f = one-flag m n v h e ∙ ap₂ (λ (x y : ℕ). withBit v x y) f (sym (s ∙ t))
 

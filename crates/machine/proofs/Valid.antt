@@ -1,8 +1,8 @@
 -- What a valid record has, and what is enough for one; the check's way of going about it finds the same; what keeps a record valid.
 -- In order: tests of all words; validity by its parts (`Sound`, `sound`, `is-valid`), and all of it but the mask (`InRange`, `in-range`,
 -- `word-le`); the check's test is validity (`bits-voice`, `words-test`); words that are cut (`cut-again`, `cut-voice`); a store and a put voice keep a
--- record in range (`range-set`, `range-put`), with its mask made true it is valid (`sound-masked`), and a store at a shared word keeps it so
--- (`sound-set`); a voice of a valid record is cut (`range-voice`). What the check answers is Answers. Assumes nothing.
+-- record in range (`range-set`, `range-put`), and a voice of it is cut (`range-voice`); with its mask made true it is valid (`sound-masked`), and a store
+-- at a shared word keeps it so (`sound-set`). What the check answers is Answers. Assumes nothing.
 use mathlib.Core.Path.{_≡_, refl, sym, ap, ap₂, subst, _∙_}
 use mathlib.Core.Bool.{Bool, true, false, _&&_, false≢true}
 use mathlib.Core.List.{List}
@@ -16,7 +16,7 @@ use lib.ListN.{length, getD, set, length-set}
 use lib.Seq.{getD-set-same, getD-set-other}
 use borrow.Author.Tests.{eq-eqb, eqb-true, lt-ltb}
 use Rattle.numbers.proofs.Tests.{cases, all-at}
-use Rattle.machine.specs.Words.{RECORD_WORDS, PAGE, IRQV, SUMS, WAIT_MASK, voiceWord, voiceBits, sharedBits, bitsOf, cut, cutTo, isVector, waitingVoices, withMask, isTrueMask, valid}
+use Rattle.machine.specs.Words.{RECORD_WORDS, PAGE, IRQV, SUMS, WAIT_MASK, voiceWord, voiceBits, sharedBits, bitsOf, cut, cutTo, isVector, waitingVoices, withMask, hasTrueMask, valid}
 use Rattle.machine.specs.Voices.{voiceAt, putVoice}
 use Rattle.machine.specs.Kept.{among, keptAt, gathered, gatheredKept, sumsKept, threeKept, sharedKept}
 use Rattle.machine.proofs.Kept.{and-again, or-kept}
@@ -76,11 +76,11 @@ unfolding cutTo cut
 tests-all m = from-each (keptAt m) (cutTo m) refl (λ j. refl)
 
 pub sound : (m : List ℕ) → valid m ≡ true → Sound m
-unfolding valid cut isTrueMask
+unfolding valid cut hasTrueMask
 sound m h =
-    let a = both (eqb (length m) RECORD_WORDS) (cutTo m RECORD_WORDS && (isVector (getD m IRQV 0) && isTrueMask m)) h in
-    let b = both (cutTo m RECORD_WORDS) (isVector (getD m IRQV 0) && isTrueMask m) (a .1) in
-    let c = both (isVector (getD m IRQV 0)) (isTrueMask m) (b .1) in
+    let a = both (eqb (length m) RECORD_WORDS) (cutTo m RECORD_WORDS && (isVector (getD m IRQV 0) && hasTrueMask m)) h in
+    let b = both (cutTo m RECORD_WORDS) (isVector (getD m IRQV 0) && hasTrueMask m) (a .1) in
+    let c = both (isVector (getD m IRQV 0)) (hasTrueMask m) (b .1) in
     record {
       size = eqb-true (length m) RECORD_WORDS (a .0);
       words = λ i k. eqb-true (cut i (getD m i 0)) (getD m i 0) (tests-each m RECORD_WORDS (b .0) i k);
@@ -89,7 +89,7 @@ sound m h =
     }
 
 pub is-valid : (m : List ℕ) → Sound m → valid m ≡ true
-unfolding valid cut isTrueMask
+unfolding valid cut hasTrueMask
 is-valid m s =
     let e : cutTo m RECORD_WORDS ≡ true = tests-all m RECORD_WORDS (λ i k. eq-eqb (cut i (getD m i 0)) (getD m i 0) (s .words i k)) in
     rw (eq-eqb (length m) RECORD_WORDS (s .size), e, s .vector, eq-eqb (getD m WAIT_MASK 0) (waitingVoices m) (s .mask))
@@ -148,13 +148,13 @@ mask-cut : (m : List ℕ) → cut WAIT_MASK (waitingVoices m) ≡ waitingVoices 
 unfolding cut bitsOf sharedBits
 mask-cut m = and-mask (waitingVoices m) 32 ∙ mod-eq-of-lt (waiting-lt m)
 
-mask-kept : (m : List ℕ) → isTrueMask m ≡ true → keptAt m WAIT_MASK ≡ true
-unfolding isTrueMask cut
+mask-kept : (m : List ℕ) → hasTrueMask m ≡ true → keptAt m WAIT_MASK ≡ true
+unfolding hasTrueMask cut
 mask-kept m h = rw (eqb-true (getD m WAIT_MASK 0) (waitingVoices m) h) (eq-eqb _ _ (mask-cut m))
 
 -- all voices at once, the sums and the words between four by four, and a mask that is true; or word by word, and the mask: one test
 module _ (m : List ℕ) where
-  words-found : gatheredKept m 20 ≡ true → sumsKept m 4 ≡ true → sharedKept m 4 ≡ true → isTrueMask m ≡ true
+  words-found : gatheredKept m 20 ≡ true → sumsKept m 4 ≡ true → sharedKept m 4 ≡ true → hasTrueMask m ≡ true
       → (i : ℕ) → i < RECORD_WORDS → keptAt m i ≡ true
   unfolding gatheredKept sumsKept sharedKept
   words-found hv hs ha hm i h = cases i PAGE (keptAt m i ≡ true)
@@ -201,15 +201,15 @@ module _ (m : List ℕ) where
     shared-found = from-each (threeKept m) (sharedKept m) refl (λ j. refl) 4
         (λ l k. ap₂ _&&_ (ap₂ _&&_ (f (PAGE + l) (omega arith)) (f (PAGE + 4 + l) (omega arith))) (f (PAGE + 8 + l) (omega arith)))
 
-  pub words-test : ((gatheredKept m 20 && sumsKept m 4 && sharedKept m 4) && isTrueMask m) ≡ (cutTo m RECORD_WORDS && isTrueMask m)
-  words-test = same-bool ((gatheredKept m 20 && sumsKept m 4 && sharedKept m 4) && isTrueMask m) (cutTo m RECORD_WORDS && isTrueMask m)
+  pub words-test : ((gatheredKept m 20 && sumsKept m 4 && sharedKept m 4) && hasTrueMask m) ≡ (cutTo m RECORD_WORDS && hasTrueMask m)
+  words-test = same-bool ((gatheredKept m 20 && sumsKept m 4 && sharedKept m 4) && hasTrueMask m) (cutTo m RECORD_WORDS && hasTrueMask m)
       (λ h.
-      let o = both (gatheredKept m 20 && sumsKept m 4 && sharedKept m 4) (isTrueMask m) h in
+      let o = both (gatheredKept m 20 && sumsKept m 4 && sharedKept m 4) (hasTrueMask m) h in
       let p = both (gatheredKept m 20 && sumsKept m 4) (sharedKept m 4) (o .0) in
       let q = both (gatheredKept m 20) (sumsKept m 4) (p .0) in
       ap₂ _&&_ (tests-all m RECORD_WORDS (words-found (q .0) (q .1) (p .1) (o .1))) (o .1))
       (λ h.
-      let o = both (cutTo m RECORD_WORDS) (isTrueMask m) h in
+      let o = both (cutTo m RECORD_WORDS) (hasTrueMask m) h in
       let f = tests-each m RECORD_WORDS (o .0) in
       ap₂ _&&_ (ap₂ _&&_ (ap₂ _&&_ (voices-found f) (sums-found f)) (shared-found f)) (o .1))
 

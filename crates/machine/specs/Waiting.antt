@@ -10,15 +10,15 @@ use Rattle.answer.specs.declared.Answer.{Answer}
 use Rattle.machine.specs.Words.{WAIT_MASK}
 use Rattle.machine.specs.Check.{checked}
 
--- it asks what every call on a record asks, and no more
+-- it asks what every call on a record but a reset asks, and no more
 abbrev pub waitingAnswer : List ℕ → Answer
 waitingAnswer m = checked m
 
 -- the mask; 0 in a refusal
-unfoldable pub waitingMask : List ℕ → ℕ
-waitingMask m = cond (isDone (waitingAnswer m)) (getD m WAIT_MASK 0) 0
+unfoldable pub maskGiven : List ℕ → ℕ
+maskGiven m = cond (isDone (waitingAnswer m)) (getD m WAIT_MASK 0) 0
 
 -- what it promises: its answer, and the mask
-pub record Waits (m : List ℕ) (answer : Answer) (mask : ℕ) : Type 0 where
+pub record TellsWaiting (m : List ℕ) (answer : Answer) (mask : ℕ) : Type 0 where
   pub answers : answer ≡ waitingAnswer m
-  pub gives : mask ≡ waitingMask m
+  pub gives : mask ≡ maskGiven m

@@ -7,8 +7,7 @@ use mathlib.Core.List.{List, [], _∷_}
 use lib.Bits.{bitAnd}
 use lib.Dec.{eqb, ltb}
 use lib.ListN.{length, getD, set}
-use Rattle.numbers.specs.Sum.{sum}
-use Rattle.control.specs.Control.{bitOf, flagOf, IRQ}
+use Rattle.control.specs.Control.{bitOf, flagOf, maskOf, IRQ}
 
 -- how many words a record has; how many voices it has, and how many words each
 abbrev pub RECORD_WORDS : ℕ
@@ -185,13 +184,16 @@ cut i x = bitAnd x (bitsOf i)
 
 -- ---- the waiting voices
 
--- voice v waits: its interrupt flag is set
+-- the interrupt flag of voice v; and whether the voice waits, that is, whether its flag is set
+abbrev pub flagBit : List ℕ → ℕ → ℕ
+flagBit m v = bitOf IRQ (getD m (voiceWord v CR) 0)
+
 abbrev pub waits : List ℕ → ℕ → Bool
 waits m v = flagOf IRQ (getD m (voiceWord v CR) 0)
 
--- the mask that the control registers make: bit v is the interrupt flag of voice v, of all voices, active or not
+-- the mask that the control registers make: bit v is the flag of voice v, of all voices, active or not
 unfoldable pub waitingVoices : List ℕ → ℕ
-waitingVoices m = sum VOICES (λ v. bitOf IRQ (getD m (voiceWord v CR) 0) * 2 ^ v)
+waitingVoices m = maskOf VOICES (flagBit m)
 
 -- the record with its mask made true
 unfoldable pub withMask : List ℕ → List ℕ
@@ -209,8 +211,8 @@ unfoldable pub isVector : ℕ → Bool
 isVector x = ltb x VOICES || eqb x NO_INTERRUPT
 
 -- the mask is true
-unfoldable pub isTrueMask : List ℕ → Bool
-isTrueMask m = eqb (getD m WAIT_MASK 0) (waitingVoices m)
+unfoldable pub hasTrueMask : List ℕ → Bool
+hasTrueMask m = eqb (getD m WAIT_MASK 0) (waitingVoices m)
 
 unfoldable pub valid : List ℕ → Bool
-valid m = eqb (length m) RECORD_WORDS && (cutTo m RECORD_WORDS && (isVector (getD m IRQV 0) && isTrueMask m))
+valid m = eqb (length m) RECORD_WORDS && (cutTo m RECORD_WORDS && (isVector (getD m IRQV 0) && hasTrueMask m))

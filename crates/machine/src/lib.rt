@@ -1,4 +1,4 @@
-// The machine record: its words by name, the bits that each keeps, the check that every call begins with, reset, and the waiting voices.
+// The machine record: its words by name, the bits that each keeps, the check that every call but a reset begins with, the waiting voices, and reset.
 ghost use mathlib.Core.Path.{_≡_};
 ghost use mathlib.Core.Bool.{_&&_};
 ghost use Prim.Native.Nat.{_+_, _<_, _≤_};
@@ -10,7 +10,7 @@ ghost use Rattle.machine.specs.Kept.{inVoices, gatheredKept, sumsKept, s
 ghost use Rattle.machine.specs.Check.{checked};
 ghost use Rattle.machine.specs.Reset.{Resets, fresh};
 ghost use Rattle.machine.specs.Reset.{resetWord as Reset·resetWord};
-ghost use Rattle.machine.specs.Waiting.{Waits};
+ghost use Rattle.machine.specs.Waiting.{TellsWaiting};
 use answer::Answer;
 
 // How many words a record has; how many voices it has, and how many words each.
@@ -290,21 +290,21 @@ pub fn mark(m: &mut [u32], v: usize, b: u32)
     m[WAIT_MASK] = control::put(v as u32, b, mask);
 }
 
-// What the waiting voices' call gives: its answer, and the mask.
-pub struct Waiters {
+// What a host that asks is told: the answer, and the mask.
+pub struct Told {
     pub answer: Answer,
     pub mask: u32,
 }
 
 // Which voices wait, for the host to see in one look.
-pub fn waiting(m: &[u32]) -> Waiters
-    ensures { λ r. ⌜ Waits (now (m .entry)) (r .answer) (r .mask) ⌝ }
+pub fn waiting(m: &[u32]) -> Told
+    ensures { λ r. ⌜ TellsWaiting (now (m .entry)) (r .answer) (r .mask) ⌝ }
 {
     let a = check(m);
     let Answer::Done = a else {
-        return Waiters { answer: a, mask: 0 };
+        return Told { answer: a, mask: 0 };
     };
-    Waiters {
+    Told {
         answer: Answer::Done,
         mask: m[WAIT_MASK],
     }

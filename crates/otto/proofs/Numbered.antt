@@ -6,7 +6,7 @@ use lib.IntN.{ℤ}
 use Rattle.answer.specs.Answer.{answerNumber}
 use Rattle.answer.specs.declared.Answer.{Answer}
 use Rattle.machine.specs.Reset.{Resets}
-use Rattle.machine.specs.Waiting.{Waits}
+use Rattle.machine.specs.Waiting.{TellsWaiting}
 use Rattle.registers.specs.Access.{Writes, Reads, SetsPot}
 use Rattle.frame.specs.Frame.{Frames}
 use Rattle.wave_in.specs.Import.{Imports}
@@ -40,7 +40,7 @@ module _ {m later : List ℕ} {a : Answer} {n : ℕ} (number : n ≡ answerNumbe
     sounds = p .sounds;
   }
 
-pub waiting-number : {m : List ℕ} {a : Answer} {n x mask : ℕ} → n ≡ answerNumber a → mask ≡ x → Waits m a x → TellingWaiting m n mask
+pub waiting-number : {m : List ℕ} {a : Answer} {n x mask : ℕ} → n ≡ answerNumber a → mask ≡ x → TellsWaiting m a x → TellingWaiting m n mask
 unfolding answerTo after givenBy
 waiting-number number e p = record { calls = record { answers = number ∙ ap answerNumber (p .answers); leaves = refl }; gives = e ∙ p .gives }
 

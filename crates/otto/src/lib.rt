@@ -40,9 +40,9 @@ pub extern "C" fn otto_set_pot(record: &mut [u32], pot: u32) -> u32
 pub extern "C" fn otto_waiting(record: &[u32], mask: &mut u32) -> u32
     ensures { λ r. ⌜ TellingWaiting (now («record» .entry)) r (now (mask .exit)) ⌝ }
 {
-    let waiters = machine::waiting(record);
-    *mask = waiters.mask;
-    let a = waiters.answer;
+    let told = machine::waiting(record);
+    *mask = told.mask;
+    let a = told.answer;
     answer::number(a)
 }
 

@@ -227,8 +227,8 @@ fn acknowledge(m: &mut [u32])
         let i = machine::VOICE_WORDS * voice as usize + machine::CR;
         let cr = m[i];
         m[i] = control::with_bit(control::IRQ, 0, cr);
-        m[machine::IRQV] = machine::NO_INTERRUPT;
         machine::mark(m, voice as usize, 0);
+        m[machine::IRQV] = machine::NO_INTERRUPT;
     }
 }
 

@@ -17,7 +17,7 @@ use borrow.Author.Tests.{ne-eqb, lt-ltb}
 use Rattle.numbers.specs.Sum.{sum}
 use Rattle.control.specs.Control.{bitOf, withBit, IRQ}
 use Rattle.control.proofs.Agree.{put-apart}
-use Rattle.machine.specs.Words.{PAGE, IRQV, ACTV, SLOW, SUMS, sharedBits, bitsOf, cut, cutTo, isVector, isTrueMask, waitingVoices, withMask, valid, WAIT_MASK, RECORD_WORDS}
+use Rattle.machine.specs.Words.{PAGE, IRQV, ACTV, SLOW, SUMS, sharedBits, bitsOf, cut, cutTo, isVector, hasTrueMask, waitingVoices, withMask, valid, WAIT_MASK, RECORD_WORDS}
 use Rattle.machine.specs.Voices.{voiceAt, putVoice}
 use Rattle.machine.specs.Reset.{resetWord, wordsFrom, fresh}
 use Rattle.machine.proofs.Parts.{voice-same, voice-set-shared, put-length, put-same, put-other, put-out}
@@ -53,11 +53,11 @@ unfoldable pub other : List ℕ
 other = machine 5 768 90 128
 
 one-valid : valid one ≡ true
-unfolding one machine note putVoice fresh wordsFrom resetWord valid cutTo cut bitsOf sharedBits isVector isTrueMask waitingVoices withMask sum bitOf
+unfolding one machine note putVoice fresh wordsFrom resetWord valid cutTo cut bitsOf sharedBits isVector hasTrueMask waitingVoices withMask sum bitOf
 one-valid = refl
 
 other-valid : valid other ≡ true
-unfolding other machine note putVoice fresh wordsFrom resetWord valid cutTo cut bitsOf sharedBits isVector isTrueMask waitingVoices withMask sum bitOf
+unfolding other machine note putVoice fresh wordsFrom resetWord valid cutTo cut bitsOf sharedBits isVector hasTrueMask waitingVoices withMask sum bitOf
 other-valid = refl
 
 -- at least five voices are active: a reset leaves all of them so

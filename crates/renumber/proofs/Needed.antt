@@ -17,7 +17,7 @@ use Rattle.filter.specs.Filter.{lowPass, highPass, coefficient, pole3, pole4, f
 use Rattle.volume.specs.Volume.{mantissa, exponent, volumeOf, panned}
 use Rattle.channel.specs.Channel.{mixed, putOut}
 use Rattle.address.specs.Address.{raised, forwardEvent, reverseEvent, forward, reverse, stepped}
-use Rattle.machine.specs.Words.{CR, ACTV, SUMS, sharedBits, bitsOf, cut, cutTo, isVector, isTrueMask, waitingVoices, withMask, valid, WAIT_MASK, voiceWord}
+use Rattle.machine.specs.Words.{CR, ACTV, SUMS, sharedBits, bitsOf, cut, cutTo, isVector, hasTrueMask, waitingVoices, withMask, valid, WAIT_MASK, voiceWord}
 use Rattle.machine.specs.Voices.{voiceAt, putVoice}
 use Rattle.machine.specs.Check.{checked}
 use Rattle.machine.specs.Reset.{resetAnswer, resetWord, wordsFrom, fresh}
@@ -52,7 +52,7 @@ pub computed :
     × (loudness (outputs (set one ACTV 4) (frame 1000 ∷ [])) ≡ 15952)
     × (loudness (outputs (set other ACTV 4) (frame 1000 ∷ [])) ≡ 0)
     × (loudness (outputs (set other SUMS 1) (frame 1000 ∷ [])) ≡ 15953)
-unfolding frame loudness silence one other machine note putVoice voiceAt fresh wordsFrom resetWord valid cutTo cut bitsOf sharedBits isVector isTrueMask waitingVoices withMask sum resetAnswer checked outputs outputFrom after byteAnswer writeRecord writtenTo stored withByte registerOf lowPage highPage sumPage frameAnswer frameRecord frameOutput played turns turnAt added addedTo signalled mixed putOut heard silenced closed wordsOf turnOf runningTurn stoppedTurn withOutputs moved rampedLevels lastOutputs sampled fetched fraction interpolated sampleOf firstAt secondAt floorDiv floorMod signed word held filtered pole3 pole4 lowPass highPass coefficient panned volumeOf mantissa exponent stepped forward reverse forwardEvent reverseEvent raised runs flagOf bitOf withBit
+unfolding frame loudness silence one other machine note putVoice voiceAt fresh wordsFrom resetWord valid cutTo cut bitsOf sharedBits isVector hasTrueMask waitingVoices withMask sum resetAnswer checked outputs outputFrom after byteAnswer writeRecord writtenTo stored withByte registerOf lowPage highPage sumPage frameAnswer frameRecord frameOutput played turns turnAt added addedTo signalled mixed putOut heard silenced closed wordsOf turnOf runningTurn stoppedTurn withOutputs moved rampedLevels lastOutputs sampled fetched fraction interpolated sampleOf firstAt secondAt floorDiv floorMod signed word held filtered pole3 pole4 lowPass highPass coefficient panned volumeOf mantissa exponent stepped forward reverse forwardEvent reverseEvent raised runs flagOf bitOf withBit
 computed = (refl, refl, refl, refl, refl, refl, refl)
 
 -- two runs that are not equally loud do not put out the same
@@ -65,7 +65,7 @@ note-sounds = omega (arith, computed .0)
 
 -- nor of frames alone that miss no word: where one word of memory is lent, the note misses the next
 pub note-misses : givenBy one (Frame (1000 ∷ []) (replicate 12 (pos 1))) ≡ 1
-unfolding one machine note putVoice voiceAt fresh wordsFrom resetWord valid cutTo cut bitsOf sharedBits isVector isTrueMask waitingVoices withMask frameAnswer givenBy frameMissing missedIn sum missedBy missingOf fetched firstAt secondAt runs flagOf bitOf
+unfolding one machine note putVoice voiceAt fresh wordsFrom resetWord valid cutTo cut bitsOf sharedBits isVector hasTrueMask waitingVoices withMask frameAnswer givenBy frameMissing missedIn sum missedBy missingOf fetched firstAt secondAt runs flagOf bitOf
 note-misses = refl
 
 -- each frame gets the same sample memory
@@ -88,5 +88,5 @@ sums-needed = differ (outputs one (frame 1000 ∷ [])) (outputs (set other SUMS 
 pub flags-needed :
     (bitOf IRQ (getD (run one []) (voiceWord 3 CR) 0) ≢ bitOf IRQ (getD (run one (Read 56 ∷ [])) (voiceWord 3 CR) 0))
     × (getD (run one []) WAIT_MASK 0 ≢ getD (run one (Read 56 ∷ [])) WAIT_MASK 0)
-unfolding one machine note putVoice fresh wordsFrom resetWord valid cutTo cut bitsOf sharedBits isVector isTrueMask waitingVoices withMask sum resetAnswer checked run after byteAnswer readRecord readFrom sideEffect acknowledged readAs registerOf bitOf withBit
+unfolding one machine note putVoice fresh wordsFrom resetWord valid cutTo cut bitsOf sharedBits isVector hasTrueMask waitingVoices withMask sum resetAnswer checked run after byteAnswer readRecord readFrom sideEffect acknowledged readAs registerOf bitOf withBit
 flags-needed = ((λ e. let q : _≡_ {A = ℕ} 1 0 = e in omega arith), (λ e. let q : _≡_ {A = ℕ} 8 0 = e in omega arith))

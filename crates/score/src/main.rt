@@ -6,8 +6,8 @@
 // 5: ask which voices wait.
 //
 // Each command gives one line: the answer's number, for a read also the byte, for kind 5 also the mask of the waiting voices, for a frame also how
-// many words were missing and the twelve values. A command of any other kind gives the line "no call". A last command that is cut short is left out, and so is all that stands after
-// 65,536 bytes; a score whose sample memory is cut short gives no line.
+// many words were missing and the twelve values. A command of any other kind gives the line "no call". A last command that is cut short is left
+// out, and so is all that stands after 65,536 bytes; a score whose sample memory is cut short gives no line.
 ghost use mathlib.Core.Path.{_≡_};
 ghost use Prim.Native.Nat.{_+_, _*_, _≤_};
 ghost use lib.IntN.{natAbs};
