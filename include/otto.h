@@ -91,8 +91,9 @@ uint32_t otto_write(uint32_t *record, size_t words, uint32_t address,
  * into a latch, and all four bytes are read from there: to read a register,
  * read its bytes 0 to 3 in order. Byte 0 of the interrupt vector, register 14,
  * also takes the interrupt that is in it: the voice's IRQ bit becomes 0, and
- * the vector is empty. Byte 0 of the pot result, register 13, also takes the
- * result. So this call changes the record.
+ * the vector is empty. The voice's number, 0 to 31, is then in byte 3, or 128
+ * where the vector was empty; byte 0 is always 0. Byte 0 of the pot result,
+ * register 13, also takes the result. So this call changes the record.
  *
  * Refusals: 1, 2, 3.
  */
@@ -139,24 +140,28 @@ uint32_t otto_frame(uint32_t *record, size_t words, const uint16_t *memory,
  * CR. All 32 voices count, active or not. *mask is always set, to 0 where the
  * call is refused.
  *
- * A voice comes to wait by a loop event while IRQE is set in its CR, or by a CR
- * that the host writes with IRQ set; a CR written without IRQ takes it out of
- * the mask, but not out of the vector.
+ * A voice comes to wait by a loop event while IRQE, bit 5 of its CR, is set, or
+ * by a CR that the host writes with IRQ set. A CR written without IRQ takes it
+ * out of the mask, but not out of the vector: so the vector may name a voice
+ * that is not in the mask.
  *
  * The call changes nothing and takes nothing, however often it is made. An
- * interrupt is taken by reading byte 0 of the vector, register 14. The vector
- * names one voice at a time, and takes the next only in a frame: after a frame
- * that found it empty, it names the lowest active voice of the mask, if there
- * is one. So a host reads it once after a frame, and not until the mask is 0: a
- * voice that is not active does not enter it, and stays in the mask until its
- * CR is written without IRQ, or it is active again and its interrupt taken.
+ * interrupt is taken by reading the vector, register 14: byte 0 takes it, and
+ * byte 3 says whose it was. The vector names one voice at a time, and takes the
+ * next only in a frame: after a frame that found it empty, it names the lowest
+ * active voice of the mask, if there is one. So a host reads it once after each
+ * frame, also where the mask is 0. It must not go on reading in the hope that
+ * the mask becomes 0: without a frame the mask loses one voice at most, and a
+ * voice that is not active does not enter the vector. Where the vector does not
+ * name it already, such a voice stays in the mask until its CR is written
+ * without IRQ, or it is active again and its interrupt is taken.
  *
- * The mask is a word of the record, and every call keeps it true; a reset makes
+ * The mask is a word of the record, and no call leaves it false; a reset makes
  * it 0. Between calls a host may look at record[OTTO_WAIT_MASK] itself; no
- * register shows it. A host that stores into CR itself, which for voice v is
- * record[20 * v], or brings a record from elsewhere, must make the mask true:
- * where bit v of it is not bit 7 of record[20 * v], for any v from 0 to 31,
- * every call on the record but otto_reset is refused with 2.
+ * register shows it. A host that stores a CR into the record itself, for voice
+ * v at record[20 * v], or brings a record from elsewhere, must make the mask
+ * true: where bit v of it is not bit 7 of record[20 * v], for any v from 0 to
+ * 31, every call on the record but otto_reset is refused with 2.
  *
  * Refusals: 1, 2.
  */

@@ -1,4 +1,4 @@
--- A mask, bits side by side in one word: bit v is f v, for v below n.
+-- A mask, bits side by side in one word: bit v is f v, which is 0 or 1, for v below n.
 -- In order: it has n bits (`mask-lt`); each of its bits (`mask-bit`); one bit changed (`mask-changed`). Assumes nothing.
 use mathlib.Core.Path.{_≡_, ap, _∙_}
 use mathlib.Core.Logic.{_≢_}

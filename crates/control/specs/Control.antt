@@ -54,7 +54,7 @@ flagOf n w = eqb (bitOf n w) 1
 unfoldable pub withBit : ℕ → ℕ → ℕ → ℕ
 withBit n b w = w - bitOf n w * 2 ^ n + b * 2 ^ n
 
--- n bits side by side in one word: bit v is f v
+-- n bits side by side in one word: bit v is f v, which is 0 or 1
 abbrev pub maskOf : ℕ → (ℕ → ℕ) → ℕ
 maskOf n f = sum n (λ v. f v * 2 ^ v)
 

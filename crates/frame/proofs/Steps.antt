@@ -44,9 +44,9 @@ module _ (m : List ℕ) (v CR : ℕ) where
   unfolding signalled
   signal-enters f h = rw (f, eq-eqb (getD m IRQV 0) 128 h)
 
-  pub signal-taken : (getD m IRQV 0 ≡ 128 → ⊥) → signalled m v CR ≡ m
+  pub signal-occupied : (getD m IRQV 0 ≡ 128 → ⊥) → signalled m v CR ≡ m
   unfolding signalled
-  signal-taken h = split (signalled m v CR ≡ m) (flagOf IRQ CR) (λ t. rw (t, ne-eqb (getD m IRQV 0) 128 h)) (λ t. rw t)
+  signal-occupied h = split (signalled m v CR ≡ m) (flagOf IRQ CR) (λ t. rw (t, ne-eqb (getD m IRQV 0) 128 h)) (λ t. rw t)
 
   pub signal-none : flagOf IRQ CR ≡ false → signalled m v CR ≡ m
   unfolding signalled

@@ -87,7 +87,7 @@ waiting-done m e = record { answers = e; gives = rw (← e) }
 pub one-waiting : {m : List ℕ} {a b : Answer} {x y : ℕ} → TellsWaiting m a x → TellsWaiting m b y → (a ≡ b) × (x ≡ y)
 one-waiting p q = (p .answers ∙ sym (q .answers), p .gives ∙ sym (q .gives))
 
--- For hosts: a call that is done gives a mask whose bit v is set exactly where voice v waits; so it is 0 exactly where no voice does.
+-- For hosts: of the mask that a call gives which is done, bit v is set exactly where voice v waits; so it is 0 exactly where no voice does.
 module _ (m : List ℕ) (done : waitingAnswer m ≡ Done) where
   mask-given : maskGiven m ≡ waitingVoices m
   unfolding maskGiven

@@ -168,11 +168,11 @@ latch-covered m y register x = at register
     under i z (no e) = ap (λ (l : List ℕ). set l WRITE_LATCH 0) (set-comm m WRITE_LATCH i y z e) ∙ set-set (set m i z) WRITE_LATCH y 0
 
     -- and not under the mask either
-    told : (n : List ℕ) → set (withMask n) WRITE_LATCH 0 ≡ withMask (set n WRITE_LATCH 0)
-    told n = sym (masked-after n WRITE_LATCH 0 (omega arith) (λ z. omega arith))
+    latch-masked : (n : List ℕ) → set (withMask n) WRITE_LATCH 0 ≡ withMask (set n WRITE_LATCH 0)
+    latch-masked n = sym (masked-after n WRITE_LATCH 0 (omega arith) (λ z. omega arith))
 
     at : (g : Register) → set (stored (set m WRITE_LATCH y) g x) WRITE_LATCH 0 ≡ set (stored m g x) WRITE_LATCH 0
-    at (Word i) = told (set (set m WRITE_LATCH y) i (cut i x)) ∙ ap withMask (under i (cut i x) (ℕ-discrete WRITE_LATCH i)) ∙ sym (told (set m i (cut i x)))
+    at (Word i) = latch-masked (set (set m WRITE_LATCH y) i (cut i x)) ∙ ap withMask (under i (cut i x) (ℕ-discrete WRITE_LATCH i)) ∙ sym (latch-masked (set m i (cut i x)))
     at (Sum i) = under i (cut i x) (ℕ-discrete WRITE_LATCH i)
     at Par = set-set m WRITE_LATCH y 0
     at Irqv = set-set m WRITE_LATCH y 0

@@ -9,7 +9,7 @@ use borrow.Author.Needs.{needs}
 use Rattle.control.specs.Control.{flagOf, withBit, IRQ}
 use Rattle.machine.specs.Words.{RECORD_WORDS, IRQV, WAIT_MASK, NO_INTERRUPT, waitingVoices, withMask}
 use Rattle.machine.proofs.Mask.{masked-same}
-use Rattle.frame.proofs.Steps.{signal-enters, signal-taken, signal-none}
+use Rattle.frame.proofs.Steps.{signal-enters, signal-occupied, signal-none}
 use Rattle.frame.proofs.signal.Statement.{statement}
 use Rattle.frame.proofs.signal.Tie as tie
 
@@ -41,7 +41,7 @@ returns-2 : tie.Need-returns-2
 returns-2 c =
     let d = c .before .before .before .before in
     let e = d .mark .ensures in
-    e ∙ sym (signal-taken (withMask (d .before .before .before .before .before .args .m .now)) _ _ (λ q. c .if2 .left (subst (λ (n : List ℕ). getD n IRQV 0 ≡ NO_INTERRUPT) (sym e) q)))
+    e ∙ sym (signal-occupied (withMask (d .before .before .before .before .before .args .m .now)) _ _ (λ q. c .if2 .left (subst (λ (n : List ℕ). getD n IRQV 0 ≡ NO_INTERRUPT) (sym e) q)))
 
 returns-3 : tie.Need-returns-3
 returns-3 c =
