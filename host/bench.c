@@ -178,9 +178,10 @@ static void set_missing(uint32_t words)
 
 /* All that costs most, at once in every voice: two high passes, codes, the last
    word of a bank, which is missing while the next, the bank's first, is there,
-   an event with an interrupt while none waits, and four fast ramps in a frame
-   where slow ones rest. The loop mode and the direction are given: they change
-   the cost by little, and which of them costs most depends on the engine. */
+   an event with an interrupt in a frame that finds the vector empty, and four
+   fast ramps where slow ones rest. The loop mode and the direction are given:
+   they change the cost by little, and which of them costs most depends on the
+   engine. */
 static void set_worst(uint32_t mode)
 {
     set_voices(0, MOST_ECOUNT);
@@ -248,7 +249,7 @@ static void must_be_worst(uint32_t mode)
         must(record[v * VOICE_WORDS + VOICE_ECOUNT] == MOST_ECOUNT - 1,
              "each voice's ramps move");
     }
-    must(record[WORD_IRQV] == 0, "the first voice's interrupt is taken");
+    must(record[WORD_IRQV] == 0, "the vector names the first voice");
 }
 
 static uint32_t run_claims(uint32_t times)

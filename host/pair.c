@@ -328,7 +328,7 @@ static void count_masks(uint32_t mask, uint32_t answer)
 }
 
 /* The record is only read: it is as it was, on either side. A mask that is
-   answered is the record's word. */
+   answered is the record's word, and what the control registers say. */
 uint32_t pair_waiting(size_t words)
 {
     uint8_t before[RECORD_BYTES];
@@ -345,9 +345,13 @@ uint32_t pair_waiting(size_t words)
     if (unlike(lents[0].edge, before + RECORD_BYTES, RECORD_BYTES)) {
         stop("waiting", "the record is not as it was");
     }
-    if (answers[0] == OTTO_DONE &&
-        lents[0].mask[-1] != pair_word(OTTO_WAIT_MASK)) {
-        stop("waiting", "the mask is not the record's word");
+    if (answers[0] == OTTO_DONE) {
+        if (lents[0].mask[-1] != pair_word(OTTO_WAIT_MASK)) {
+            stop("waiting", "the mask is not the record's word");
+        }
+        if (lents[0].mask[-1] != pair_flags()) {
+            stop("waiting", "the mask is not what the control registers say");
+        }
     }
     count_masks(lents[0].mask[-1], answers[0]);
     return answers[0];

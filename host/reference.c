@@ -325,8 +325,8 @@ static void take_register(uint32_t *record, uint32_t word)
         record[WORD_PAR] = 1023;
     }
 
-    /* Taking a waiting interrupt clears its voice's flag and frees the
-       vector. */
+    /* Taking the interrupt that is in the vector clears its voice's flag and
+       frees the vector. */
     if (word == WORD_IRQV && record[WORD_IRQV] < VOICES) {
         record[record[WORD_IRQV] * VOICE_WORDS + VOICE_CR] &= ~CR_IRQ;
         record[WORD_IRQV] = NO_INTERRUPT;

@@ -15,8 +15,13 @@
 static uint32_t kept[WORDS]; /* the bits of each word that a record may have */
 
 static const size_t lengths[] = {
-    0,         1,         12,        20,        640,         641,        651,
-    WORDS - 2, WORDS - 1, WORDS + 1, WORDS + 2, WORDS + 20u, MOST_RECORD
+    0,           1,
+    12,          VOICE_WORDS,
+    WORD_PAGE,   WORD_PAGE + 1,
+    WORD_SUMS,   WORDS - 2,
+    WORDS - 1,   WORDS + 1,
+    WORDS + 2,   WORDS + VOICE_WORDS,
+    MOST_RECORD
 };
 
 static const size_t memory_lengths[] = {
@@ -172,11 +177,15 @@ static void walk_codes(void)
 /* Each call but reset, with the record as it is. */
 static void each_call(size_t words)
 {
-    (void)pair_write(words, random_below(66), (uint8_t)random_word());
+    uint8_t value = (uint8_t)random_word();
+    size_t values;
+
+    (void)pair_write(words, random_below(66), value);
     (void)pair_read(words, random_below(66));
     (void)pair_set_pot(words, random_below(1030));
+    values = random_once_in(4) ? 11 : OTTO_OUTPUT_VALUES;
     (void)pair_frame(words, memory_lengths[random_below(COUNT(memory_lengths))],
-                     random_once_in(4) ? 11 : OTTO_OUTPUT_VALUES);
+                     values);
     (void)pair_waiting(words);
 }
 
@@ -312,8 +321,8 @@ static void walk_voices(void)
     }
 }
 
-/* Each address on each page, written and read whole, with an interrupt that
-   waits on some pages. */
+/* Each address on each page, written and read whole, with a voice in the vector
+   on some pages. */
 static void walk_registers(void)
 {
     for (uint32_t page = 0; page < 128; page++) {
@@ -472,14 +481,20 @@ static void read_register(uint32_t number)
 /* Ten byte calls, in order or not, and who waits after them. */
 static void bytes(void)
 {
-    write_register(random_once_in(4) ? 15 : random_below(16), any_word());
+    uint32_t value = any_word();
+    uint32_t address;
+
+    write_register(random_once_in(4) ? 15 : random_below(16), value);
     read_register(random_below(16));
-    (void)pair_write(any_length(), any_address(), (uint8_t)any_word());
-    (void)pair_read(any_length(), any_address());
+    value = any_word();
+    address = any_address();
+    (void)pair_write(any_length(), address, (uint8_t)value);
+    address = any_address();
+    (void)pair_read(any_length(), address);
     (void)pair_waiting(any_length());
 }
 
-/* A word put by the host, mostly one that the record may not have. Where it may
+/* A word put by the host, mostly one that the record may not have. Where it may,
    the calls are done, and may have changed flags. */
 static void damage(void)
 {
@@ -562,8 +577,9 @@ static void take_interrupts(void)
 static void other_calls(void)
 {
     uint32_t word = random_below(WORDS);
+    uint32_t pot = random_below(1030);
 
-    (void)pair_set_pot(any_length(), random_below(1030));
+    (void)pair_set_pot(any_length(), pot);
     poke_true(word, valid_word(word));
     if (random_once_in(20)) {
         damage();
@@ -575,8 +591,9 @@ static void other_calls(void)
         take_interrupts();
     }
     if (random_once_in(20)) {
-        (void)pair_frame(any_length(), memory_words,
-                         output_lengths[random_below(COUNT(output_lengths))]);
+        size_t values = output_lengths[random_below(COUNT(output_lengths))];
+
+        (void)pair_frame(any_length(), memory_words, values);
     }
     if (random_once_in(200)) {
         (void)pair_reset(any_length());

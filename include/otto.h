@@ -132,8 +132,10 @@ uint32_t otto_frame(uint32_t *record, size_t words, const uint16_t *memory,
                     size_t memory_words, int32_t *output,
                     size_t output_values, uint32_t *missing);
 
-/* The record's word that has the mask of the waiting voices. */
+/* The record's word that has the mask of the waiting voices, and the bit of CR
+   that is a voice's interrupt flag. */
 #define OTTO_WAIT_MASK 663u
+#define OTTO_CR_IRQ    0x80u
 
 /*
  * Which voices wait, as a mask: bit v is the IRQ bit of voice v, bit 7 of its
@@ -142,26 +144,32 @@ uint32_t otto_frame(uint32_t *record, size_t words, const uint16_t *memory,
  *
  * A voice comes to wait by a loop event while IRQE, bit 5 of its CR, is set, or
  * by a CR that the host writes with IRQ set. A CR written without IRQ takes it
- * out of the mask, but not out of the vector: so the vector may name a voice
- * that is not in the mask.
+ * out of the mask, but not out of the vector. So the vector may name a voice
+ * that is not in the mask: its interrupt was withdrawn, and the host, when it
+ * reads that name, has nothing to do.
  *
  * The call changes nothing and takes nothing, however often it is made. An
  * interrupt is taken by reading the vector, register 14: byte 0 takes it, and
  * byte 3 says whose it was. The vector names one voice at a time, and takes the
  * next only in a frame: after a frame that found it empty, it names the lowest
  * active voice of the mask, if there is one. So a host reads it once after each
- * frame, also where the mask is 0. It must not go on reading in the hope that
- * the mask becomes 0: without a frame the mask loses one voice at most, and a
- * voice that is not active does not enter the vector. Where the vector does not
- * name it already, such a voice stays in the mask until its CR is written
- * without IRQ, or it is active again and its interrupt is taken.
+ * frame. Where the mask is 0 it may leave that out: the vector is empty then, or
+ * it has a name that was withdrawn, which is read before the next one, so that
+ * the next one comes a frame later.
  *
- * The mask is a word of the record, and no call leaves it false; a reset makes
+ * A host must not go on reading in the hope that the mask becomes 0: between two
+ * frames reading takes one voice at most out of it, and a voice that is not
+ * active does not enter the vector. Where the vector does not name it already,
+ * such a voice stays in the mask until its CR is written without IRQ, until it
+ * is active again and its interrupt is taken, or until a reset.
+ *
+ * The mask is a word of the record, and no call makes it false; a reset makes
  * it 0. Between calls a host may look at record[OTTO_WAIT_MASK] itself; no
  * register shows it. A host that stores a CR into the record itself, for voice
  * v at record[20 * v], or brings a record from elsewhere, must make the mask
  * true: where bit v of it is not bit 7 of record[20 * v], for any v from 0 to
- * 31, every call on the record but otto_reset is refused with 2.
+ * 31, every call on the record but otto_reset is refused with 2. A record that
+ * was saved when it had 663 words needs the mask behind its last.
  *
  * Refusals: 1, 2.
  */

@@ -1,15 +1,15 @@
 -- Bits of a word: a word by its parts above, at and below a bit; a bit set by an OR, and put once it is set; what a put bit leaves, in its range too;
 -- reading bit m after bit n was put; the same of flags.
 -- Assumes nothing.
-use mathlib.Core.Path.{_≡_, sym, ap, ap₂, subst, _∙_}
+use mathlib.Core.Path.{_≡_, sym, ap, subst, _∙_}
 use mathlib.Core.Bool.{true, false}
 use mathlib.Core.Logic.{_≢_}
-use Prim.Native.Nat.{ℕ, zero, suc, _+_, _-_, _*_, _/_, _%_, _^_, _<_, _≤_, min}
-use native.Mathlib.Nat.{mod-lt, mod-eq-of-lt, mul-le-mul-right, pow-suc, mul-add-mod-self-right, mul-add-div-right}
+use Prim.Native.Nat.{ℕ, zero, suc, _+_, _-_, _*_, _/_, _%_, _^_, _<_, _≤_}
+use native.Mathlib.Nat.{mod-lt, mul-le-mul-right, pow-suc, mul-add-mod-self-right, mul-add-div-right}
 use native.Mathlib.Omega.{arith}
 use lib.Arith.{digits-div, digits-lt}
-use lib.Bits.{bitAnd, bitOr, and-step, and-mask, or-add-and}
-use lib.Pow.{pow-pos, pow-mono, pow-add, shr-lt, shr-shr, split}
+use lib.Bits.{bitAnd, bitOr, and-high, or-add-and}
+use lib.Pow.{pow-pos, pow-add, shl-exact, shr-lt, shr-shr, split}
 use lib.Dec.{eqb}
 use borrow.Author.Tests.{eqb-true, eqb-false}
 use Rattle.numbers.proofs.Tests.{cases}
@@ -39,10 +39,7 @@ put-parts n b w =
 
 -- a bit in its place fits a word of 32 bits, and is in the word
 pub in-place : (n x : ℕ) → n < 32 → x ≤ 1 → (x * 2 ^ n) % 4294967296 ≡ x * 2 ^ n
-in-place n x h k =
-    let p : 2 ^ n ≤ 2 ^ 31 = pow-mono {i = n} {j = 31} (omega arith) in
-    let q : x * 2 ^ n ≤ 1 * 2 ^ n = mul-le-mul-right (2 ^ n) k in
-    mod-eq-of-lt (omega arith)
+in-place n x h k = shl-exact 1 n 32 (omega arith) (omega arith)
 
 pub bit-within : (n w : ℕ) → bitOf n w * 2 ^ n ≤ w
 bit-within n w =
@@ -52,21 +49,7 @@ bit-within n w =
 -- a bit by itself, and the bit set
 and-bit : (n w : ℕ) → bitAnd w (2 ^ n) ≡ bitOf n w * 2 ^ n
 unfolding bitOf
-and-bit zero w = and-mask w 1 ∙ omega arith
-and-bit (suc n) w =
-    let p : 2 ^ suc n ≡ 2 ^ n * 2 = pow-suc 2 n in
-    let half : 2 ^ suc n / 2 ≡ 2 ^ n = omega arith in
-    let even : 2 ^ suc n % 2 ≡ 0 = omega arith in
-    let e : suc n ≡ 1 + n = omega arith in
-    let q : w / 2 / 2 ^ n ≡ w / 2 ^ suc n = shr-shr w 1 n ∙ ap (λ (k : ℕ). w / 2 ^ k) (sym e) in
-    and-step w (2 ^ suc n)
-    ∙ ap₂ (λ (x y : ℕ). bitAnd (w / 2) x * 2 + min (w % 2) y) half even
-    ∙ ap (λ (x : ℕ). x * 2 + min (w % 2) 0) (and-bit n (w / 2))
-    ∙ ap (λ (x : ℕ). x % 2 * 2 ^ n * 2 + min (w % 2) 0) q
-    ∙ twice (w / 2 ^ suc n % 2) (2 ^ n) (2 ^ suc n) p
-  where
-    twice : (x k j : ℕ) → j ≡ k * 2 → x * k * 2 + min (w % 2) 0 ≡ x * j
-    twice x k j e = rw e (omega arith)
+and-bit n w = let e : 2 ^ (1 + n) - 2 ^ n ≡ 2 ^ n = omega (arith, pow-add 2 1 n) in ap (bitAnd w) (sym e) ∙ and-high w 1 n
 
 pub or-bit : (n w : ℕ) → bitOr w (2 ^ n) ≡ withBit n 1 w
 unfolding withBit
@@ -84,9 +67,9 @@ unfolding withBit
 set-within n b w = let h : 1 - b ≤ 1 = omega arith in omega (arith, mul-le-mul-right (2 ^ n) h)
 
 -- a bit put to what it is changes nothing
-pub put-same : (n b w : ℕ) → bitOf n w ≡ b → withBit n b w ≡ w
+pub put-again : (n b w : ℕ) → bitOf n w ≡ b → withBit n b w ≡ w
 unfolding withBit
-put-same n b w e = omega (arith, bit-within n w, ap (λ (x : ℕ). x * 2 ^ n) e)
+put-again n b w e = omega (arith, bit-within n w, ap (λ (x : ℕ). x * 2 ^ n) e)
 
 -- and a word of d bits stays one
 pub put-below : (d n b w : ℕ) → n < d → b ≤ 1 → w < 2 ^ d → withBit n b w < 2 ^ d

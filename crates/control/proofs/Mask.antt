@@ -1,8 +1,8 @@
 -- A mask, bits side by side in one word: bit v is f v, which is 0 or 1, for v below n.
--- In order: it has n bits (`mask-lt`); each of its bits (`mask-bit`); one bit changed (`mask-changed`). Assumes nothing.
+-- In order: it has n bits (`mask-below`); each of its bits (`mask-bit`); one bit changed (`mask-changed`). Assumes nothing.
 use mathlib.Core.Path.{_≡_, ap, _∙_}
 use mathlib.Core.Logic.{_≢_}
-use Prim.Native.Nat.{ℕ, zero, suc, _-_, _*_, _/_, _^_, _<_, _≤_}
+use Prim.Native.Nat.{ℕ, zero, suc, _*_, _/_, _^_, _<_, _≤_}
 use native.Mathlib.Decide.{ℕ-discrete}
 use native.Mathlib.Nat.{not-suc-le-zero, pow-suc, mul-le-mul-right, div-eq-of-lt}
 use native.Mathlib.Omega.{arith}
@@ -12,16 +12,16 @@ use Rattle.control.specs.Control.{bitOf, withBit, maskOf}
 use Rattle.control.proofs.Bits.{bit-within, read-put, read-other}
 
 module _ (f : ℕ → ℕ) (bit : (v : ℕ) → f v ≤ 1) where
-  pub mask-lt : (n : ℕ) → maskOf n f < 2 ^ n
+  pub mask-below : (n : ℕ) → maskOf n f < 2 ^ n
   unfolding sum
-  mask-lt zero = omega arith
-  mask-lt (suc n) = omega (arith, mask-lt n, mul-le-mul-right (2 ^ n) (bit n), pow-suc 2 n)
+  mask-below zero = omega arith
+  mask-below (suc n) = omega (arith, mask-below n, mul-le-mul-right (2 ^ n) (bit n), pow-suc 2 n)
 
   -- one bit more is a bit put
   mask-next : (n : ℕ) → maskOf (suc n) f ≡ withBit n (f n) (maskOf n f)
   unfolding sum withBit bitOf
   mask-next n =
-      let none : maskOf n f / 2 ^ n ≡ 0 = div-eq-of-lt (mask-lt n) in
+      let none : maskOf n f / 2 ^ n ≡ 0 = div-eq-of-lt (mask-below n) in
       rw none (omega arith)
 
   pub mask-bit : (n k : ℕ) → k < n → bitOf k (maskOf n f) ≡ f k

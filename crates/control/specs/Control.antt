@@ -1,5 +1,5 @@
--- The control register of a voice: the number of each bit, a bit read, a bit put, bits side by side, and the fields of more than one bit.
--- Assumes nothing.
+-- The control register of a voice: the number of each bit, a bit read and a bit put, and the fields of more than one bit. And, of no control
+-- register, bits side by side in a word, which are read and put alike. Assumes nothing.
 use Prim.Native.Nat.{ℕ, _+_, _-_, _*_, _/_, _%_, _^_}
 use mathlib.Core.Bool.{Bool, not, _&&_}
 use lib.Dec.{eqb}

@@ -11,6 +11,7 @@ use Prim.Native.Nat.{ℕ, suc}
 use lib.IntN.{ℤ, pos}
 use lib.ListN.{getD, set, replicate}
 use Rattle.numbers.specs.Numbers.{floorDiv, floorMod, minus, signed, word, held}
+use Rattle.numbers.specs.Sum.{sum}
 use Rattle.control.specs.Control.{bitOf, flagOf, withBit, runs}
 use Rattle.filter.specs.Filter.{lowPass, highPass, coefficient, pole3, pole4, filtered}
 use Rattle.volume.specs.Volume.{mantissa, exponent, volumeOf, panned}
@@ -21,14 +22,13 @@ use Rattle.sample.specs.Sample.{firstAt, secondAt, sampleOf, fetched, fraction,
 use Rattle.voice.specs.Turn.{lastOutputs, rampedLevels, withOutputs, moved, stoppedTurn, sampled, runningTurn, turnOf}
 use Rattle.answer.specs.declared.Answer.{Answer}
 use Rattle.answer.specs.declared.Answer.the-variants.{Done}
-use Rattle.machine.specs.Words.{CR, ACCUM, ACTV, voiceWord, sharedBits, bitsOf, cut, cutTo, isVector, hasTrueMask, waitingVoices, withMask, valid, IRQV, WAIT_MASK, NO_INTERRUPT}
+use Rattle.machine.specs.Words.{CR, ACCUM, ACTV, voiceWord, sharedBits, bitsOf, cut, cutTo, isVector, hasTrueMask, waitingVoices, withMask, valid, IRQV, NO_INTERRUPT}
 use Rattle.machine.specs.Voices.{voiceAt, putVoice}
 use Rattle.machine.specs.Check.{checked}
 use Rattle.machine.specs.Waiting.{maskGiven}
 use Rattle.machine.specs.Reset.{resetAnswer, resetWord, wordsFrom, fresh}
 use Rattle.voice.specs.Voice.{wordsOf}
 use Rattle.voice.specs.Missed.{missedBy}
-use Rattle.numbers.specs.Sum.{sum}
 use Rattle.frame.specs.Missing.{missedIn}
 use Rattle.frame.specs.Frame.{addedTo, added, signalled, turnAt, turns, heard, silenced, closed, played, frameAnswer, frameRecord, frameOutput, frameMissing}
 
@@ -152,9 +152,12 @@ two-heard = refl
 
 -- ---- a voice that waits
 
--- stopped, with its flag set, and so in the mask
+-- voice v, stopped, with its flag set, and so in the mask
+abbrev waitsAlone : ℕ → List ℕ
+waitsAlone v = withMask (set fresh (voiceWord v CR) 131)
+
 abbrev pub flagged : List ℕ
-flagged = set (set fresh (voiceWord 0 CR) 131) WAIT_MASK 1
+flagged = waitsAlone 0
 
 pub flagged-valid : valid flagged ≡ true
 unfolding framed
@@ -164,7 +167,17 @@ pub one-waits : maskGiven flagged ≡ 1
 unfolding framed maskGiven
 one-waits = refl
 
--- the frame puts it into the empty vector, which stays empty where no voice waits
-pub vectors-after : (getD (frameRecord flagged memory silence) IRQV 0 ≡ 0) × (getD (frameRecord one memory silence) IRQV 0 ≡ NO_INTERRUPT)
+-- what the vector is after a frame
+abbrev vectorAfter : List ℕ → List ℤ → ℕ
+vectorAfter m out = getD (frameRecord m memory out) IRQV 0
+
+-- an empty one takes the voice that waits; it stays empty where none does, and where the one that does, voice 7, is not active
+pub vectors-after : (vectorAfter flagged silence ≡ 0) × ((vectorAfter one silence ≡ NO_INTERRUPT) × (vectorAfter (set (waitsAlone 7) ACTV 6) silence ≡ NO_INTERRUPT))
 unfolding framed
-vectors-after = (refl, refl)
+vectors-after = (refl, (refl, refl))
+
+-- What frame/proofs/Vector asks of the frame is needed: a vector that names a voice stays, whoever waits; and one that is empty stays so where the
+-- frame is refused, here for want of an output.
+pub vectors-kept : (vectorAfter (set flagged IRQV 5) silence ≡ 5) × (vectorAfter flagged [] ≡ NO_INTERRUPT)
+unfolding framed
+vectors-kept = (refl, refl)

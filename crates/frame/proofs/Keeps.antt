@@ -18,7 +18,7 @@ use Rattle.control.specs.Control.{flagOf, IRQ}
 use Rattle.channel.specs.Channel.{mixed}
 use Rattle.channel.proofs.Laws.{mixed-is}
 use Rattle.machine.specs.Words.{voiceBits, sharedBits, bitsOf, cut, isVector, ACTV, IRQV, SLOW, SUMS}
-use Rattle.machine.specs.Voices.{voiceAt}
+use Rattle.machine.specs.Voices.{voiceAt, putVoice}
 use Rattle.machine.proofs.Valid.{Sound, InRange, in-range, range-put, range-voice, sound-masked, sound-set, word-le}
 use Rattle.voice.specs.Turn.{turnOf}
 use Rattle.voice.specs.Ranges.{Ranges}
@@ -197,16 +197,16 @@ sound-signalled {m} v CR s h = either Sound (flagOf IRQ CR && eqb (getD m IRQV 0
 
 -- ---- the turn, and the turns
 
+-- the voice's new words put into the record leave it in range
+pub turn-range : (memory : List ℕ) (v : ℕ) {m : List ℕ} → Sound m → v < 32 → InRange (putVoice m v (wordsOf (turnOf memory (getD m SLOW 0) (voiceOf (voiceAt m v)) .voice)))
+turn-range memory v {m} s h =
+    let t = turnOf memory (getD m SLOW 0) (voiceOf (voiceAt m v)) in
+    range-put v (wordsOf (t .voice)) (in-range s) h (words-length (t .voice))
+    (turn-cut memory (getD m SLOW 0) (voiceAt m v) (λ j k. range-voice m (in-range s) v j h k))
+
 pub sound-turn : (memory : List ℕ) (v : ℕ) {m : List ℕ} → Sound m → v < 32 → Sound (turnAt memory v m)
 unfolding turnAt
-sound-turn memory v {m} s h =
-    let t = turnOf memory (getD m SLOW 0) (voiceOf (voiceAt m v)) in
-    sound-signalled v _
-    (sound-added _ _ _
-    (sound-masked
-    (range-put v (wordsOf (t .voice)) (in-range s) h (words-length (t .voice))
-    (turn-cut memory (getD m SLOW 0) (voiceAt m v) (λ j k. range-voice m (in-range s) v j h k)))))
-    h
+sound-turn memory v s h = sound-signalled v _ (sound-added _ _ _ (sound-masked (turn-range memory v s h))) h
 
 pub sound-turns : (memory : List ℕ) (n : ℕ) {m : List ℕ} → Sound m → n ≤ 32 → Sound (turns memory n m)
 unfolding turns

@@ -1,7 +1,7 @@
 -- What a turn, the turns and the closing leave, voice by voice and word by word; and what is put out.
 -- In order: what a turn does with a voice's words (`wordsAfter`), and what it adds to each sum (`portion`, `share`); the parts of a turn
 -- (`added-…`); the turn (`turn-word`, `turn-vector`, `turn-sum`, `turn-same`, `turn-other`); the turns of voices 0 to k - 1 (`shares`, `Turned`,
--- `slow-stays`, `turned`, `all-turned`), which do not say what becomes of the vector; the closing (`silenced-…`, `closed-…`,
+-- `slow-stays`, `turned`, `all-turned`), which do not say what becomes of the vector (Vector does); the closing (`silenced-…`, `closed-…`,
 -- `sound-closed`); both (`closed-stays`); the output (`heard-…`).
 -- That a turn and the turns keep a record valid is Keeps, and what one voice's turn does to its own registers is the crate `voice`.
 -- Assumes nothing.
@@ -21,6 +21,7 @@ use lib.IntN.{ℤ}
 use lib.ListN.{length, getD, set, take, drop, replicate, length-drop, length-append, length-map, getD-replicate, List·getD-append}
 use lib.Seq.{getD-take, getD-drop, getD-append-add, getD-set-same, getD-set-other, length-take-le, ext-getD}
 use Rattle.numbers.specs.Numbers.{word}
+use Rattle.numbers.specs.Sum.{sum}
 use Rattle.numbers.proofs.Tests.{either, split, cases}
 use Rattle.control.specs.Control.{flagOf, channelOf, IRQ}
 use Rattle.channel.specs.Channel.{mixed, putOut}
@@ -29,13 +30,12 @@ use Rattle.machine.specs.Words.{PAGE, IRQV, ACTV, SLOW, SUMS, WAIT_MASK, NO_INT
 use Rattle.machine.specs.Voices.{voiceAt, putVoice}
 use Rattle.machine.proofs.Parts.{voice-set-shared, voice-same, put-length, put-same, put-other, put-out}
 use Rattle.machine.proofs.Mask.{same-flags, masked-length, masked-word, masked-voice}
-use Rattle.machine.proofs.Valid.{Sound, in-range, range-put, range-voice, sound-masked, sound-set}
+use Rattle.machine.proofs.Valid.{Sound, in-range, sound-masked, sound-set}
 use Rattle.voice.specs.Turn.{turnOf}
 use Rattle.voice.specs.Voice.{voiceOf, wordsOf}
-use Rattle.numbers.specs.Sum.{sum}
 use Rattle.frame.specs.Frame.{addedTo, added, signalled, turnAt, turns, played, heard, silenced, closed}
 use Rattle.frame.proofs.Steps.{added-to-length, added-to-other}
-use Rattle.frame.proofs.Keeps.{sum-small, words-length, turn-cut, sound-turn, active-le}
+use Rattle.frame.proofs.Keeps.{sum-small, words-length, turn-range, sound-turn, active-le}
 
 -- ---- what a turn does with a voice's words, and what it adds to each sum
 
@@ -78,12 +78,15 @@ unfolding addedTo
 added-to-same m i j z e h = rw e (getD-set-same m i (mixed (getD m i 0) (word 23 z)) 0 h ∙ mixed-is (getD m i 0) (word 23 z))
 
 module _ (m : List ℕ) (channel : ℕ) (left right : ℤ) where
-  pub added-word : (i : ℕ) → i < SUMS → getD (added m channel left right) i 0 ≡ getD m i 0
+  -- a word that is no sum
+  pub added-word : (i : ℕ) → ((c : ℕ) → c < 12 → i ≢ SUMS + c) → getD (added m channel left right) i 0 ≡ getD m i 0
   unfolding added
-  added-word i h =
+  added-word i d =
       let n = addedTo m (SUMS + 2 * channel) left in
       either (λ r. getD r i 0 ≡ getD m i 0) (ltb channel 6) (addedTo n (SUMS + 2 * channel + 1) right) m
-      (λ _. added-to-other n (SUMS + 2 * channel + 1) i right (λ e. omega arith) ∙ added-to-other m (SUMS + 2 * channel) i left (λ e. omega arith))
+      (λ t.
+      let h = ltb-true channel 6 t in
+      added-to-other n (SUMS + 2 * channel + 1) i right (λ e. d (2 * channel + 1) (omega arith) (omega arith)) ∙ added-to-other m (SUMS + 2 * channel) i left (d (2 * channel) (omega arith)))
       (λ _. refl)
 
   added-voice : (u : ℕ) → length m ≡ RECORD_WORDS → u < 32 → voiceAt (added m channel left right) u ≡ voiceAt m u
@@ -168,14 +171,12 @@ module _ (memory : List ℕ) (v : ℕ) (m : List ℕ) (s : Sound m) (h : v < 32)
 
   put-sound : Sound put
   unfolding put wordsAfter
-  put-sound = sound-masked
-      (range-put v (wordsAfter memory (getD m SLOW 0) (voiceAt m v)) (in-range s) h long
-      (turn-cut memory (getD m SLOW 0) (voiceAt m v) (λ j k. range-voice m (in-range s) v j h k)))
+  put-sound = sound-masked (turn-range memory v s h)
 
   -- the words between the voices and the sums stay, but for the vector
   pub turn-word : (i : ℕ) → PAGE ≤ i → i < SUMS → i ≢ IRQV → getD (turnAt memory v m) i 0 ≡ getD m i 0
   unfolding turnAt put wordsAfter
-  turn-word i k l d = signalled-word _ v _ i d ∙ added-word _ _ _ _ i l ∙ put-word i k (λ e. omega arith)
+  turn-word i k l d = signalled-word _ v _ i d ∙ added-word _ _ _ _ i (λ c b e. omega arith) ∙ put-word i k (λ e. omega arith)
 
   -- the vector, by the flag as the turn leaves it
   pub turn-vector : getD (turnAt memory v m) IRQV 0
@@ -183,7 +184,7 @@ module _ (memory : List ℕ) (v : ℕ) (m : List ℕ) (s : Sound m) (h : v < 32)
   unfolding turnAt put wordsAfter
   turn-vector =
       let t = turnOf memory (getD m SLOW 0) (voiceOf (voiceAt m v)) in
-      let e = added-word put (channelOf (getD (voiceAt m v) 0 0)) (t .left) (t .right) IRQV (lit< tt) ∙ put-word IRQV (lit≤ tt) (λ z. omega arith) in
+      let e = added-word put (channelOf (getD (voiceAt m v) 0 0)) (t .left) (t .right) IRQV (λ c b z. omega arith) ∙ put-word IRQV (lit≤ tt) (λ z. omega arith) in
       signalled-vector _ v _ (added-length _ _ _ _ ∙ put-size)
       ∙ ap (λ (x : ℕ). cond (flagOf IRQ (t .voice .cr) && eqb x NO_INTERRUPT) v x) e
 

@@ -10,6 +10,8 @@ use native.Mathlib.Nat.{le-refl}
 use native.Mathlib.Omega.{arith}
 use lib.IntN.{ℤ}
 use lib.ListN.{length, getD}
+use Rattle.numbers.specs.Sum.{sum}
+use Rattle.numbers.proofs.Sum.{sum-ext, sum-most, sum-zeros, none-summed}
 use Rattle.numbers.proofs.Tests.{either}
 use Rattle.answer.specs.Answer.{isDone}
 use Rattle.answer.specs.declared.Answer.the-variants.{Done}
@@ -22,10 +24,8 @@ use Rattle.sample.proofs.Laws.{within-four-banks}
 use Rattle.voice.specs.Voice.{voiceOf}
 use Rattle.voice.specs.Missed.{missedBy}
 use Rattle.voice.proofs.Missed.{missed-most, missed-none, missed-both}
-use Rattle.numbers.specs.Sum.{sum}
 use Rattle.frame.specs.Missing.{missedIn, AllThere}
 use Rattle.frame.specs.Frame.{turns, frameAnswer, frameMissing}
-use Rattle.numbers.proofs.Sum.{sum-ext, sum-most, sum-zeros, none-summed}
 use Rattle.frame.proofs.Keeps.{active-le, places-of}
 use Rattle.frame.proofs.Leaves.{turned}
 use Rattle.frame.proofs.Answered.{done-frame}

@@ -12,6 +12,7 @@ use native.Mathlib.Numerals.{add-one}
 use native.Mathlib.Omega.{arith}
 use lib.Dec.{lit<, lit≤}
 use lib.ListN.{getD}
+use Rattle.numbers.proofs.Sum.{sum-ext, sum-renumbered, maps-outside}
 use Rattle.numbers.proofs.Tests.{cases}
 use Rattle.machine.specs.Words.{ACTV, SLOW, SUMS}
 use Rattle.machine.specs.Voices.{voiceAt}
@@ -22,7 +23,6 @@ use Rattle.frame.specs.Missing.{missedIn}
 use Rattle.frame.specs.Frame.{played, heard, closed}
 use Rattle.frame.specs.Paired.{Paired}
 use Rattle.frame.proofs.Keeps.{active-le}
-use Rattle.numbers.proofs.Sum.{sum-ext, sum-renumbered, maps-outside}
 use Rattle.frame.proofs.Leaves.{wordsAfter, share, shares, Turned, slow-stays, all-turned, closed-voice, closed-slow, closed-sum, closed-stays, heard-same}
 
 -- a turn keeps P, and two voices in P add the same to each sum and miss as many words

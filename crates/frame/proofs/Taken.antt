@@ -5,6 +5,7 @@
 use mathlib.Core.Path.{_≡_, refl, sym, ap, _∙_}
 use mathlib.Core.Bool.{false, cond}
 use mathlib.Core.List.{List, _++_}
+use mathlib.Core.Logic.{_≢_}
 use Prim.Native.Nat.{ℕ, _+_, _*_, _%_, _<_, _≤_}
 use native.Mathlib.Omega.{arith}
 use borrow.Author.Tests.{ltb-true}
@@ -15,14 +16,14 @@ use lib.Seq.{set-getD}
 use Rattle.numbers.specs.Numbers.{floorMod, word}
 use Rattle.numbers.proofs.Tests.{either, split, neither}
 use Rattle.control.specs.Control.{bitOf, flagOf, withBit, channelOf, runs, IRQ}
-use Rattle.control.proofs.Bits.{put-same, flag-bit, no-flag-bit}
+use Rattle.control.proofs.Bits.{put-again, flag-bit, no-flag-bit}
 use Rattle.channel.specs.Channel.{mixed}
 use Rattle.channel.proofs.Laws.{mixed-is}
 use Rattle.machine.specs.Words.{CR, SLOW, SUMS, WAIT_MASK, voiceWord, waitingVoices, withMask}
 use Rattle.machine.specs.Voices.{voiceAt, putVoice}
 use Rattle.machine.proofs.Parts.{voice-word, put-in, put-out}
 use Rattle.machine.proofs.Mask.{bit-waits, one-marked, masked-word, masked-after}
-use Rattle.machine.proofs.Valid.{Sound, InRange, in-range, range-put, range-voice}
+use Rattle.machine.proofs.Valid.{Sound, InRange}
 use Rattle.voice.specs.Voice.{Turn, voiceOf, wordsOf}
 use Rattle.voice.specs.Turn.{stoppedTurn, turnOf}
 use Rattle.voice.specs.declared.Addend.{Addend}
@@ -30,8 +31,8 @@ use Rattle.voice.specs.Takes.{TakesTurn}
 use Rattle.voice.proofs.Laws.{turn-stands}
 use Rattle.voice.proofs.Flag.{turn-flag}
 use Rattle.frame.specs.Frame.{addedTo, added, signalled, turnAt}
-use Rattle.frame.proofs.Steps.{added-none, added-to-other}
-use Rattle.frame.proofs.Keeps.{sum-small, words-length, turn-cut}
+use Rattle.frame.proofs.Steps.{added-none}
+use Rattle.frame.proofs.Keeps.{sum-small, words-length, turn-range}
 use Rattle.frame.proofs.Leaves.{added-word}
 
 -- ---- nothing added
@@ -70,15 +71,6 @@ masked-added m c left right = split _ (ltb c 6)
     ∙ ap (λ (n : List ℕ). addedTo n (SUMS + (2 * c + 1)) right) (masked-added-to m (2 * c) left (omega arith))))
     (λ t. rw t)
 
--- the word itself is no sum
-added-mask : (m : List ℕ) (c : ℕ) (left right : ℤ) → getD (added m c left right) WAIT_MASK 0 ≡ getD m WAIT_MASK 0
-unfolding added
-added-mask m c left right = either (λ n. getD n WAIT_MASK 0 ≡ getD m WAIT_MASK 0) (ltb c 6) _ m
-    (λ t.
-    let h = ltb-true c 6 t in
-    added-to-other (addedTo m (SUMS + 2 * c) left) (SUMS + 2 * c + 1) WAIT_MASK right (λ e. omega arith) ∙ added-to-other m (SUMS + 2 * c) WAIT_MASK left (λ e. omega arith))
-    (λ t. refl)
-
 -- ---- the part put back
 
 module _ (memory m : List ℕ) (v k : ℕ) (after : List ℕ) (a : Addend) (e : k ≡ 20) (p : TakesTurn memory (getD m SLOW 0) (take k (drop (20 * v) m)) after a)
@@ -94,9 +86,7 @@ module _ (memory m : List ℕ) (v k : ℕ) (after : List ℕ) (a : Addend) (e : 
   back-is = rw (p .words, e)
 
   pub back-range : InRange back
-  back-range = rw back-is
-      (range-put v (wordsOf (result .voice)) (in-range s) h (words-length (result .voice))
-      (turn-cut memory (getD m SLOW 0) (voiceAt m v) (λ j l. range-voice m (in-range s) v j h l)))
+  back-range = rw back-is (turn-range memory v s h)
 
   -- the addend is the turn's, of the voice's own words
   abbrev part : ℕ → List ℕ
@@ -129,19 +119,17 @@ module _ (memory m : List ℕ) (v k : ℕ) (after : List ℕ) (a : Addend) (e : 
   back-control : getD (added back (a .channel) (a .left) (a .right)) (voiceWord v CR) 0 ≡ result .voice .cr
   unfolding wordsOf
   back-control =
-      added-word back (a .channel) (a .left) (a .right) (voiceWord v CR) (omega arith) ∙ ap (λ (l : List ℕ). getD l (voiceWord v CR) 0) back-is
+      added-word back (a .channel) (a .left) (a .right) (voiceWord v CR) (λ c b q. omega arith) ∙ ap (λ (l : List ℕ). getD l (voiceWord v CR) 0) back-is
       ∙ put-in m v (wordsOf (result .voice)) (words-length (result .voice)) fits CR (lit< tt)
 
   -- a word that is none of the voice's and no sum
-  back-word : (i : ℕ) → i < SUMS → (20 * v ≤ i → i < 20 * v + 20 → ⊥) → getD (added back (a .channel) (a .left) (a .right)) i 0 ≡ getD m i 0
-  back-word i l d =
-      added-word back (a .channel) (a .left) (a .right) i l ∙ ap (λ (n : List ℕ). getD n i 0) back-is
+  back-word : (i : ℕ) → ((c : ℕ) → c < 12 → i ≢ SUMS + c) → (20 * v ≤ i → i < 20 * v + 20 → ⊥) → getD (added back (a .channel) (a .left) (a .right)) i 0 ≡ getD m i 0
+  back-word i n d =
+      added-word back (a .channel) (a .left) (a .right) i n ∙ ap (λ (l : List ℕ). getD l i 0) back-is
       ∙ put-out m v (wordsOf (result .voice)) (words-length (result .voice)) fits i d
 
   back-mask : getD (added back (a .channel) (a .left) (a .right)) WAIT_MASK 0 ≡ getD m WAIT_MASK 0
-  back-mask =
-      added-mask back (a .channel) (a .left) (a .right) ∙ ap (λ (n : List ℕ). getD n WAIT_MASK 0) back-is
-      ∙ put-out m v (wordsOf (result .voice)) (words-length (result .voice)) fits WAIT_MASK (λ b d. omega arith)
+  back-mask = back-word WAIT_MASK (λ c l q. omega arith) (λ b d. omega arith)
 
   -- a flag that is not set after the turn was not set before it, so the mask does not have it
   not-waiting : flagOf IRQ (result .voice .cr) ≡ false → bitOf v (getD m WAIT_MASK 0) ≡ 0
@@ -149,17 +137,17 @@ module _ (memory m : List ℕ) (v k : ℕ) (after : List ℕ) (a : Addend) (e : 
       let b = neither _ _ (sym (turn-flag memory (getD m SLOW 0) (voiceOf (voiceAt m v))) ∙ f) .0 in
       ap (bitOf v) (s .mask) ∙ bit-waits m v h ∙ sym (ap (bitOf IRQ) (voice-word m v CR (lit< tt))) ∙ no-flag-bit IRQ (getD (voiceAt m v) CR 0) b
 
-  pub flag-lacks : let n = added back (a .channel) (a .left) (a .right) in
+  pub mask-lacks : let n = added back (a .channel) (a .left) (a .right) in
       let cr = getD n (voiceWord v CR) 0 in
       waitingVoices n ≡ cond (flagOf IRQ cr) (withBit v 1 (getD n WAIT_MASK 0)) (getD n WAIT_MASK 0)
-  flag-lacks =
+  mask-lacks =
       let n = added back (a .channel) (a .left) (a .right) in
       let cr = getD n (voiceWord v CR) 0 in
       let W = getD n WAIT_MASK 0 in
-      let e = one-marked m n v (bitOf IRQ cr) (s .mask) back-mask h (λ u l d. back-word (voiceWord u CR) (omega arith) (λ x y. d (omega arith))) refl in
+      let e = one-marked m n v (bitOf IRQ cr) (s .mask) back-mask h (λ u l d. back-word (voiceWord u CR) (λ c b q. omega arith) (λ x y. d (omega arith))) refl in
       split _ (flagOf IRQ cr)
       (λ t. rw t (e ∙ ap (λ (b : ℕ). withBit v b W) (flag-bit IRQ cr t)))
-      (λ t. rw t (e ∙ put-same v (bitOf IRQ cr) W
+      (λ t. rw t (e ∙ put-again v (bitOf IRQ cr) W
       (ap (bitOf v) back-mask ∙ not-waiting (sym (ap (flagOf IRQ) back-control) ∙ t) ∙ sym (no-flag-bit IRQ cr t))))
 
   pub turn-taken : signalled (withMask (added back (a .channel) (a .left) (a .right))) v (getD (added back (a .channel) (a .left) (a .right)) (voiceWord v CR) 0)

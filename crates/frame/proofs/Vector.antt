@@ -38,9 +38,9 @@ same-waits m n v e = waits-voice m v ∙ ap (λ (w : List ℕ). flagOf IRQ (getD
 -- ---- the voices that had their turn
 
 -- x is the lowest of the voices below k that wait in m, or the vector's "none" where none does
-data Lowest (m : List ℕ) (k : ℕ) : ℕ → Type 0 where
-  found : (v : ℕ) → v < k → waits m v ≡ true → ((u : ℕ) → u < v → waits m u ≡ false) → Lowest m k v
-  nobody : ((u : ℕ) → u < k → waits m u ≡ false) → Lowest m k NO_INTERRUPT
+data LowestBelow (m : List ℕ) (k : ℕ) : ℕ → Type 0 where
+  found : (v : ℕ) → v < k → waits m v ≡ true → ((u : ℕ) → u < v → waits m u ≡ false) → LowestBelow m k v
+  nobody : ((u : ℕ) → u < k → waits m u ≡ false) → LowestBelow m k NO_INTERRUPT
 
 -- one turn more
 module _ (memory : List ℕ) (k : ℕ) (m : List ℕ) (s : Sound m) (h : k < 32) where
@@ -55,26 +55,26 @@ module _ (memory : List ℕ) (k : ℕ) (m : List ℕ) (s : Sound m) (h : k < 32)
   vector-after : getD (turnAt memory k m) IRQV 0 ≡ cond (waits (turnAt memory k m) k && eqb (getD m IRQV 0) NO_INTERRUPT) k (getD m IRQV 0)
   vector-after = turn-vector memory k m s h ∙ ap (λ (b : Bool). cond (b && eqb (getD m IRQV 0) NO_INTERRUPT) k (getD m IRQV 0)) (sym own-waits)
 
-  one-more : (x : ℕ) → x ≡ getD m IRQV 0 → Lowest m k x → Lowest (turnAt memory k m) (suc k) (getD (turnAt memory k m) IRQV 0)
+  one-more : (x : ℕ) → x ≡ getD m IRQV 0 → LowestBelow m k x → LowestBelow (turnAt memory k m) (suc k) (getD (turnAt memory k m) IRQV 0)
   one-more x e (found v l w below) =
       let n = turnAt memory k m in
       let stays : getD n IRQV 0 ≡ v = vector-after ∙ rw (← e, ne-eqb v NO_INTERRUPT (λ z. omega arith)) (split _ (waits n k) (λ t. rw t) (λ t. rw t)) in
-      subst (Lowest n (suc k)) (sym stays) (found v (omega arith) (past-waits v l ∙ w) (λ u b. past-waits u (omega arith) ∙ below u b))
+      subst (LowestBelow n (suc k)) (sym stays) (found v (omega arith) (past-waits v l ∙ w) (λ u b. past-waits u (omega arith) ∙ below u b))
   one-more x e (nobody f) =
       let n = turnAt memory k m in
-      split (Lowest n (suc k) (getD n IRQV 0)) (waits n k)
+      split (LowestBelow n (suc k) (getD n IRQV 0)) (waits n k)
       (λ t.
       let enters : getD n IRQV 0 ≡ k = vector-after ∙ rw (t, ← e) in
-      subst (Lowest n (suc k)) (sym enters) (found k (omega arith) t (λ u b. past-waits u b ∙ f u b)))
+      subst (LowestBelow n (suc k)) (sym enters) (found k (omega arith) t (λ u b. past-waits u b ∙ f u b)))
       (λ t.
       let empty : getD n IRQV 0 ≡ NO_INTERRUPT = vector-after ∙ rw (t, ← e) in
-      subst (Lowest n (suc k)) (sym empty)
+      subst (LowestBelow n (suc k)) (sym empty)
       (nobody (λ u b. cases u k (waits n u ≡ false) (λ l. past-waits u l ∙ f u l) (λ l. let q : u ≡ k = omega arith in rw q t))))
 
 -- all turns
-lowest-turned : (memory : List ℕ) (m : List ℕ) → Sound m → getD m IRQV 0 ≡ NO_INTERRUPT → (k : ℕ) → k ≤ 32 → Lowest (turns memory k m) k (getD (turns memory k m) IRQV 0)
+lowest-turned : (memory : List ℕ) (m : List ℕ) → Sound m → getD m IRQV 0 ≡ NO_INTERRUPT → (k : ℕ) → k ≤ 32 → LowestBelow (turns memory k m) k (getD (turns memory k m) IRQV 0)
 unfolding turns
-lowest-turned memory m s e zero h = subst (Lowest m 0) (sym e) (nobody (λ u l. absurd (not-suc-le-zero l)))
+lowest-turned memory m s e zero h = subst (LowestBelow m 0) (sym e) (nobody (λ u l. absurd (not-suc-le-zero l)))
 lowest-turned memory m s e (suc k) h =
     one-more memory k (turns memory k m) (sound-turns memory k s (omega arith)) h (getD (turns memory k m) IRQV 0) refl (lowest-turned memory m s e k (omega arith))
 
@@ -94,7 +94,7 @@ module _ (memory m : List ℕ) (s : Sound m) (e : getD m IRQV 0 ≡ NO_INTERRUPT
   active-same : getD last ACTV 0 ≡ getD m ACTV 0
   active-same = closed-stays (all-turned memory s) ACTV (lit≤ tt) (lit< tt) (λ z. omega arith) (λ z. omega arith)
 
-  by-mask : (x : ℕ) → Lowest (played memory m) (suc (getD m ACTV 0)) x → LowestOf (getD last WAIT_MASK 0) (getD last ACTV 0) x
+  by-mask : (x : ℕ) → LowestBelow (played memory m) (suc (getD m ACTV 0)) x → LowestOf (getD last WAIT_MASK 0) (getD last ACTV 0) x
   by-mask x (found v l w below) =
       let a = active-le m s in
       lowest v (omega (arith, active-same)) (told v (omega arith) ∙ w) (λ u b. told u (omega (arith, active-same)) ∙ below u b)

@@ -5,12 +5,12 @@ use mathlib.Core.Bool.{true}
 use mathlib.Core.List.{List}
 use Prim.Native.Nat.{ℕ, _+_, _≤_}
 use lib.ListN.{getD}
+use Rattle.numbers.specs.Sum.{sum}
 use Rattle.control.specs.Control.{runs}
 use Rattle.machine.specs.Words.{ACTV}
 use Rattle.machine.specs.Voices.{voiceAt}
 use Rattle.voice.specs.Voice.{voiceOf}
 use Rattle.voice.specs.Missed.{missedBy, BothThere}
-use Rattle.numbers.specs.Sum.{sum}
 
 -- the voices 0 to ACTV, each with what it misses
 unfoldable pub missedIn : List ℕ → List ℕ → ℕ

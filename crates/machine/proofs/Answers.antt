@@ -31,9 +31,9 @@ module _ (m : List ℕ) where
   unfolding checked
   check-size h = rw (ne-eqb (length m) RECORD_WORDS h)
 
-  pub check-stray : length m ≡ RECORD_WORDS → (cutTo m RECORD_WORDS && hasTrueMask m) ≡ false → checked m ≡ RecordInvalid
+  pub check-words : length m ≡ RECORD_WORDS → (cutTo m RECORD_WORDS && hasTrueMask m) ≡ false → checked m ≡ RecordInvalid
   unfolding checked valid
-  check-stray h k = rw (
+  check-words h k = rw (
     eq-eqb (length m) RECORD_WORDS h,
     and-comm (isVector (getD m IRQV 0)) (hasTrueMask m),
     ← (and-assoc (cutTo m RECORD_WORDS) (hasTrueMask m) (isVector (getD m IRQV 0))),
@@ -87,7 +87,7 @@ waiting-done m e = record { answers = e; gives = rw (← e) }
 pub one-waiting : {m : List ℕ} {a b : Answer} {x y : ℕ} → TellsWaiting m a x → TellsWaiting m b y → (a ≡ b) × (x ≡ y)
 one-waiting p q = (p .answers ∙ sym (q .answers), p .gives ∙ sym (q .gives))
 
--- For hosts: of the mask that a call gives which is done, bit v is set exactly where voice v waits; so it is 0 exactly where no voice does.
+-- For hosts: where the call is done, bit v of the mask that it gives is set exactly where voice v waits; so the mask is 0 exactly where no voice does.
 module _ (m : List ℕ) (done : waitingAnswer m ≡ Done) where
   mask-given : maskGiven m ≡ waitingVoices m
   unfolding maskGiven

@@ -17,7 +17,7 @@ use lib.Seq.{getD-set-same, getD-set-other, set-getD, set-comm}
 use Rattle.numbers.proofs.Sum.{sum-ext, sum-zeros}
 use Rattle.control.specs.Control.{bitOf, flagOf, withBit, IRQ}
 use Rattle.control.proofs.Bits.{bit-le, joined, no-flag-bit}
-use Rattle.control.proofs.Mask.{mask-lt, mask-bit, mask-changed}
+use Rattle.control.proofs.Mask.{mask-below, mask-bit, mask-changed}
 use Rattle.machine.specs.Words.{RECORD_WORDS, VOICES, PAGE, CR, WAIT_MASK, voiceWord, flagBit, waits, waitingVoices, withMask}
 use Rattle.machine.specs.Voices.{voiceAt}
 use Rattle.machine.proofs.Parts.{voice-set-shared}
@@ -36,7 +36,7 @@ module _ (m : List ℕ) where
 
   pub waiting-lt : waitingVoices m < 2 ^ 32
   unfolding waitingVoices
-  waiting-lt = mask-lt (flagBit m) (λ u. bit-le IRQ (getD m (voiceWord u CR) 0)) VOICES
+  waiting-lt = mask-below (flagBit m) (λ u. bit-le IRQ (getD m (voiceWord u CR) 0)) VOICES
 
   -- so it is 0 exactly where no voice waits
   pub none-waits : waitingVoices m ≡ 0 → (v : ℕ) → v < VOICES → waits m v ≡ false
@@ -86,6 +86,11 @@ one-marked m n v b t s h e f = one-flag m n v h e ∙ ap₂ (λ (x y : ℕ). wit
 
 -- ---- the record with its mask made true
 
+-- where it is true it stays
+pub masked-same : (m : List ℕ) → getD m WAIT_MASK 0 ≡ waitingVoices m → withMask m ≡ m
+unfolding withMask
+masked-same m e = ap (set m WAIT_MASK) (sym e) ∙ set-getD m WAIT_MASK 0
+
 module _ (m : List ℕ) where
   pub masked-length : length (withMask m) ≡ length m
   unfolding withMask
@@ -107,18 +112,10 @@ module _ (m : List ℕ) where
   unfolding withMask
   masked-voice v l h = voice-set-shared m v WAIT_MASK (waitingVoices m) l h (omega arith)
 
-  -- where it is true it stays
-  pub masked-same : getD m WAIT_MASK 0 ≡ waitingVoices m → withMask m ≡ m
-  unfolding withMask
-  masked-same e = ap (set m WAIT_MASK) (sym e) ∙ set-getD m WAIT_MASK 0
-
-  -- and it stays under a store that is of no control register
+  -- it stays true under a store that is of no control register
   pub masked-set : (i x : ℕ) → getD m WAIT_MASK 0 ≡ waitingVoices m → ((u : ℕ) → u < VOICES → voiceWord u CR ≢ i) → i ≢ WAIT_MASK
       → withMask (set m i x) ≡ set m i x
-  unfolding withMask
-  masked-set i x e d w =
-      let k : getD (set m i x) WAIT_MASK 0 ≡ waitingVoices (set m i x) = getD-set-other m i WAIT_MASK x 0 (λ q. w (sym q)) ∙ e ∙ sym (set-flags m i x d) in
-      ap (set (set m i x) WAIT_MASK) (sym k) ∙ set-getD (set m i x) WAIT_MASK 0
+  masked-set i x e d w = masked-same (set m i x) (getD-set-other m i WAIT_MASK x 0 (λ q. w (sym q)) ∙ e ∙ sym (set-flags m i x d))
 
   -- a store at a shared word may be made before or after
   pub masked-after : (i x : ℕ) → PAGE ≤ i → i ≢ WAIT_MASK → withMask (set m i x) ≡ set (withMask m) i x

@@ -1,6 +1,6 @@
 -- Validity as the check goes about it: what its functions promise to one another. In order: a word against the bits that it keeps; words
 -- that keep the same bits, several at once; the words between the voices and the sums, each by itself; the lanes that hold stray bits side
--- by side. Assumes nothing.
+-- by side. What the mask is held against is in Words, `waitingVoices`. Assumes nothing.
 use mathlib.Core.Path.{_≡_}
 use Prim.Native.Nat.{ℕ, zero, suc, _+_, _*_}
 use mathlib.Core.Bool.{Bool, true, _&&_}

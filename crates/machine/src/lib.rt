@@ -1,4 +1,5 @@
-// The machine record: its words by name, the bits that each keeps, the check that every call but a reset begins with, the waiting voices, and reset.
+// The machine record: its words by name, the bits that each keeps, the check that every call on a record but a reset begins with, the waiting
+// voices, and reset.
 ghost use mathlib.Core.Path.{_≡_};
 ghost use mathlib.Core.Bool.{_&&_};
 ghost use Prim.Native.Nat.{_+_, _<_, _≤_};
@@ -239,7 +240,7 @@ fn look_at_rest(m: &[u32], kept: &[u32; SHARED_WORDS], stray: &mut [u32; 4])
     }
 }
 
-// All bits that word j has in any voice. Its bits are kept alike in all of them, so they are held against those once.
+// All bits that word j has in any voice. The word keeps the same bits in every voice, so what is gathered is held against them once.
 fn gather(m: &[u32], j: usize) -> u32
     requires { ⌜ length (now m) ≡ Words·RECORD_WORDS ⌝ }
     requires { ⌜ j < 20 ⌝ }
@@ -279,7 +280,7 @@ fn gather_flags(m: &[u32]) -> u32
     (flags >> control::IRQ) as u32
 }
 
-// The mask is true of every voice but v, whose flag is b now: it is made true.
+// The mask is true of every other voice than v, whose flag is b now: it is made true.
 pub fn mark(m: &mut [u32], v: usize, b: u32)
     requires { ⌜ length (now m) ≡ Words·RECORD_WORDS ⌝ }
     requires { ⌜ (v < Words·VOICES) × (b ≤ 1) ⌝ }

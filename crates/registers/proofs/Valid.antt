@@ -48,7 +48,7 @@ cr-lt m s v h = omega (arith, word-le m (in-range s) (voiceWord v CR) (omega ari
 
 -- ---- the latches, which may hold any 32 bits, and the pot result
 
--- a store of such a number, in a shared word that is not the vector
+-- a store of such a number, in a shared word before the mask that is not the vector
 low-sound : {m : List ℕ} (i n x : ℕ) → Sound m → PAGE ≤ i → i < WAIT_MASK → i ≢ IRQV → bitsOf i ≡ 2 ^ n - 1 → x < 2 ^ n → Sound (set m i x)
 low-sound i n x s g h v e l = sound-set i x s g h (cut-low i n x e l) (λ z. absurd (v z))
 

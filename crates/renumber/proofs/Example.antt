@@ -1,5 +1,5 @@
 -- The theorem's hypotheses can be met, by machines and traces that differ: two machines that were reset, one with a note in voice 3 and one with
--- it in voice 5, with another page, another vector and another interrupt flag, and two hosts that write its volume, one of them with a frame
+-- it in voice 5, with another page, another vector, another interrupt flag and another mask, and two hosts that write its volume, one of them with a frame
 -- between the bytes.
 -- In order: the machines; voices 3 and 5 exchanged; the machines match; two traces; the theorem at them. Assumes nothing.
 use mathlib.Core.Path.{_≡_, refl, sym, ap, _∙_}
@@ -45,7 +45,7 @@ note CR = CR ∷ 0 ∷ 65520 ∷ 0 ∷ 65520 ∷ 0 ∷ 0 ∷ 65520 ∷ 0 ∷ 655
 unfoldable pub machine : ℕ → ℕ → ℕ → ℕ → List ℕ
 machine v CR page vector = withMask (set (set (putVoice fresh v (note CR)) PAGE page) IRQV vector)
 
--- the note is in voice 3, whose interrupt flag is set, in the mask too, and waits in the vector; or in voice 5, with no flag and another page
+-- the note is in voice 3, whose interrupt flag is set, in the mask too, and which the vector names; or in voice 5, with no flag and another page
 unfoldable pub one : List ℕ
 one = machine 3 896 3 3
 

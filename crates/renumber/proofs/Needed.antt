@@ -11,6 +11,7 @@ use native.Mathlib.Omega.{arith}
 use lib.IntN.{ℤ, pos, natAbs}
 use lib.ListN.{getD, set, replicate}
 use Rattle.numbers.specs.Numbers.{floorDiv, floorMod, signed, word, held}
+use Rattle.numbers.specs.Sum.{sum}
 use Rattle.control.specs.Control.{bitOf, flagOf, withBit, runs, IRQ}
 use Rattle.sample.specs.Sample.{firstAt, secondAt, fetched, missingOf, sampleOf, fraction, interpolated}
 use Rattle.filter.specs.Filter.{lowPass, highPass, coefficient, pole3, pole4, filtered}
@@ -26,7 +27,6 @@ use Rattle.registers.specs.Access.{byteAnswer, writeRecord, readRecord}
 use Rattle.voice.specs.Turn.{rampedLevels, withOutputs, moved, sampled, stoppedTurn, runningTurn, turnOf, lastOutputs}
 use Rattle.voice.specs.Voice.{wordsOf}
 use Rattle.voice.specs.Missed.{missedBy}
-use Rattle.numbers.specs.Sum.{sum}
 use Rattle.frame.specs.Missing.{missedIn}
 use Rattle.frame.specs.Frame.{addedTo, added, signalled, turnAt, turns, heard, silenced, closed, played, frameAnswer, frameRecord, frameOutput, frameMissing}
 use Rattle.calls.specs.Calls.{Call, Write, Read, Frame, after, givenBy, outputFrom, run, outputs}

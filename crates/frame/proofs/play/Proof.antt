@@ -10,6 +10,7 @@ use borrow.Author.Needs.{needs}
 use denote.Ref.{now}
 use lib.IntN.{ℤ}
 use lib.ListN.{length, getD}
+use Rattle.numbers.specs.Sum.{sum}
 use Rattle.codes.specs.Codes.{Expands}
 use Rattle.sample.specs.Lasts.{Lasts}
 use Rattle.machine.specs.Words.{valid, ACTV, SLOW}
@@ -17,7 +18,6 @@ use Rattle.machine.specs.Voices.{voiceAt}
 use Rattle.machine.proofs.Valid.{Sound, sound, is-valid}
 use Rattle.voice.specs.Voice.{voiceOf}
 use Rattle.voice.specs.Missed.{missedBy}
-use Rattle.numbers.specs.Sum.{sum}
 use Rattle.frame.specs.Frame.{turnAt, turns, played}
 use Rattle.frame.proofs.Keeps.{active-le, sound-turns}
 use Rattle.frame.proofs.Leaves.{slow-stays, turned}

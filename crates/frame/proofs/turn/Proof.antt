@@ -19,7 +19,7 @@ use Rattle.voice.specs.Voice.{voiceOf}
 use Rattle.voice.specs.Missed.{missedBy}
 use Rattle.voice.specs.Takes.{TakesTurn}
 use Rattle.frame.proofs.Keeps.{ranges-of, sum-small}
-use Rattle.frame.proofs.Taken.{back-range, flag-lacks, turn-taken}
+use Rattle.frame.proofs.Taken.{back-range, mask-lacks, turn-taken}
 use Rattle.frame.proofs.turn.Statement.{statement}
 use Rattle.frame.proofs.turn.Tie as tie
 
@@ -62,7 +62,7 @@ add-requires c κs =
 added-size : (c : tie.After-add) → length (c .add .last .0) ≡ RECORD_WORDS
 added-size c = let t = c .before .before .before .before .before .before .turn in c .add .kept .0 ∙ put-back (c .before .before .before .before .before .before .before .before .before .before .before) (t .last .0) (t .result) (t .ensures .0) .size
 
--- and of the mask, which lacks the voice's flag at most
+-- whose mask lacks the voice's flag at most, which is what `signal` asks
 signal-requires : tie.Need-signal-requires
 signal-requires c κs =
     let a = c .before .before .before .before .add in
@@ -74,7 +74,7 @@ signal-requires c κs =
       (
         s .pre .1 .0,
         rw (a .ensures, ranged w32 tt (p .small-left) .is, ranged w32 tt (p .small-right) .is)
-            (flag-lacks (now (s .args .memory)) (s .args .m .now) v (part s (t .last .0) (t .result) p) (t .last .0) (t .result) (twenty v)
+            (mask-lacks (now (s .args .memory)) (s .args .m .now) v (part s (t .last .0) (t .result) p) (t .last .0) (t .result) (twenty v)
             (taken s (t .last .0) (t .result) p) (whole s) (s .pre .1 .0)),
       ),
     )

@@ -13,7 +13,7 @@ use Rattle.machine.specs.Kept.{gatheredKept, clear, Lanes}
 use Rattle.machine.specs.Check.{checked}
 use Rattle.machine.proofs.Kept.{lanes-and-mask}
 use Rattle.machine.proofs.Valid.{words-test}
-use Rattle.machine.proofs.Answers.{check-size, check-stray, check-vector}
+use Rattle.machine.proofs.Answers.{check-size, check-words, check-vector}
 use Rattle.machine.proofs.check.Statement.{statement}
 use Rattle.machine.proofs.check.Tie as tie
 
@@ -49,7 +49,7 @@ returns-2 c =
     let g = c .before in
     let e = g .before .before .before .before .before .before .before in
     let m = e .before .before .args .m .now in
-    sym (check-stray m (e .if1 .left)
+    sym (check-words m (e .if1 .left)
     (sym (lanes-and-mask m _ (g .before .before .look-at-rest .ensures) (g .gather-flags .ensures) ∙ words-test m) ∙ ne-eqb _ _ (c .if2 .taken)))
 
 -- past that test, the vector decides

@@ -5,13 +5,14 @@ use mathlib.Core.List.{List}
 use Prim.Native.Nat.{ℕ, _+_, _-_, _*_, _/_, _^_, _<_, _≤_}
 use native.Mathlib.Omega.{arith}
 use borrow.Author.Needs.{needs}
+use Rattle.control.specs.Control.{IRQ}
 use Rattle.machine.specs.Words.{waitingVoices}
 use Rattle.machine.proofs.Mask.{waiting-lt, flags-from, flags-small}
 use Rattle.machine.proofs.gather_flags.Statement.{statement}
 use Rattle.machine.proofs.gather_flags.Tie as tie
 
 abbrev Inv-loop : tie.InvT-loop
-Inv-loop m flags₀ i₀ flags i = (i ≤ 32) × (flags ≡ 128 * (waitingVoices m / 2 ^ (32 - i)))
+Inv-loop m flags₀ i₀ flags i = (i ≤ 32) × (flags ≡ 2 ^ IRQ * (waitingVoices m / 2 ^ (32 - i)))
 
 abbrev μ-loop : tie.MeasureT-loop
 μ-loop m flags₀ i₀ flags i = 32 - i
@@ -20,7 +21,7 @@ loop-holds : tie.Need-loop-holds Inv-loop μ-loop
 loop-holds c = (omega arith, omega (arith, waiting-lt (c .before .args .m .now)))
 
 -- the flags gathered so far fit, and fit with one more
-small : (m : List ℕ) (flags i : ℕ) → flags ≡ 128 * (waitingVoices m / 2 ^ (32 - i)) → flags < 2 ^ 39
+small : (m : List ℕ) (flags i : ℕ) → flags ≡ 2 ^ IRQ * (waitingVoices m / 2 ^ (32 - i)) → flags < 2 ^ 39
 small m flags i e = omega (arith, e, flags-small m (32 - i))
 
 mul-flags : tie.Need-mul-flags Inv-loop μ-loop
@@ -42,7 +43,7 @@ loop-again c =
     (omega arith, rw f (omega (arith, h .inv .1, flags-from m v (omega arith), ap (λ (k : ℕ). waitingVoices m / 2 ^ k) e, c .bit .ensures .0, c .bit .ensures .1)))
 
 -- at the end they are the mask
-whole : (c : tie.After-loop Inv-loop μ-loop) → c .before .loop .flags ≡ 128 * waitingVoices (c .before .before .before .args .m .now)
+whole : (c : tie.After-loop Inv-loop μ-loop) → c .before .loop .flags ≡ 2 ^ IRQ * waitingVoices (c .before .before .before .args .m .now)
 whole c =
     let h = c .before .loop in
     let m = c .before .before .before .args .m .now in

@@ -1,5 +1,5 @@
 -- `registers::acknowledge` meets its contract: a valid record's control register is a word of 16 bits, as `with_bit` asks, and its mask is true
--- but for the flag that was cleared, as `mark` asks. Assumes nothing.
+-- but for the flag that was cleared, at most, as `mark` asks. Assumes nothing.
 use mathlib.Core.Path.{sym, ap, _∙_}
 use mathlib.Core.List.{List}
 use Prim.Native.Nat.{ℕ, _<_}

@@ -1,5 +1,5 @@
--- `registers::store_word` meets its contract: in a valid record the mask is true but for the flag that a control register takes, and it is true
--- whatever another word takes. Assumes nothing.
+-- `registers::store_word` meets its contract: in a valid record the mask is true but for the flag that a control register takes, at most, and it is
+-- true whatever another word takes. Assumes nothing.
 use mathlib.Core.Path.{_≡_, sym, ap, _∙_}
 use Prim.Native.Nat.{_/_, _<_}
 use native.Mathlib.Omega.{arith}
