@@ -222,7 +222,7 @@ uint32_t pair_flags(void)
     uint32_t flags = 0;
 
     for (uint32_t v = 0; v < VOICES; v++) {
-        flags |= pair_word(v * VOICE_WORDS + VOICE_CR) / CR_IRQ % 2 << v;
+        flags |= pair_word(v * VOICE_WORDS + VOICE_CR) / OTTO_CR_IRQ % 2 << v;
     }
     return flags;
 }

@@ -196,7 +196,7 @@ static uint32_t word_of(uint32_t page, uint32_t number)
 }
 
 /* The voice's bit of the mask becomes what its control register says. */
-static UNFOLD void put_flag(uint32_t *record, uint32_t v, uint32_t cr)
+static UNFOLD void mark(uint32_t *record, uint32_t v, uint32_t cr)
 {
     record[WORD_WAITING] =
         (record[WORD_WAITING] & ~(1u << v)) | cr / CR_IRQ % 2 << v;
@@ -225,8 +225,8 @@ static uint32_t write(uint32_t *record, size_t words, uint32_t address,
     word = word_of(record[WORD_PAGE], address >> 2);
     if (word < WORD_PAGE) {
         record[word] = latch & ~voice_stray[word % VOICE_WORDS];
-        if (address == 3) { /* of CR, on the voice's either page */
-            put_flag(record, record[WORD_PAGE] % VOICES, latch);
+        if (address == 3) { /* of CR, on either page of the voice */
+            mark(record, record[WORD_PAGE] % VOICES, latch);
         }
     } else if (word < WORD_WAITING && word != WORD_PAR && word != WORD_IRQV) {
         record[word] = latch & ~shared_stray[word - WORD_PAGE];

@@ -494,8 +494,8 @@ static void bytes(void)
     (void)pair_waiting(any_length());
 }
 
-/* A word put by the host, mostly one that the record may not have. Where it may,
-   the calls are done, and may have changed flags. */
+/* A word put by the host, mostly one that the record may not have. Where it
+   may, the calls are done, and may have changed flags. */
 static void damage(void)
 {
     uint32_t word = random_below(WORDS);

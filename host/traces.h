@@ -7,8 +7,8 @@
 
 #include <stdint.h>
 
-/* Finds the bits each word keeps, by asking; before any other trace. Of the mask
-   of waiting voices it finds none, since no voice waits then. */
+/* Finds the bits each word keeps, by asking; before any other trace. Of the
+   mask of waiting voices it finds none, since no voice waits then. */
 void trace_prepare(void);
 
 /* Everything that can be gone through one by one: codes, lengths, limits,

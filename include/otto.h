@@ -143,22 +143,24 @@ uint32_t otto_frame(uint32_t *record, size_t words, const uint16_t *memory,
  * call is refused.
  *
  * A voice comes to wait by a loop event while IRQE, bit 5 of its CR, is set, or
- * by a CR that the host writes with IRQ set. A CR written without IRQ takes it
- * out of the mask, but not out of the vector. So the vector may name a voice
- * that is not in the mask: its interrupt was withdrawn, and the host, when it
- * reads that name, has nothing to do.
+ * by a CR that the host writes with IRQ set. A CR written without IRQ withdraws
+ * the interrupt: it takes the voice out of the mask, but not out of the vector.
+ * So a host that writes CR for another reason sets OTTO_CR_IRQ in it where the
+ * mask has the voice. And where the vector names a voice that was not in the
+ * mask before the vector was read, the host has nothing to do; it must look at
+ * the mask first, since the read takes the voice that is named out of it.
  *
  * The call changes nothing and takes nothing, however often it is made. An
  * interrupt is taken by reading the vector, register 14: byte 0 takes it, and
  * byte 3 says whose it was. The vector names one voice at a time, and takes the
- * next only in a frame: after a frame that found it empty, it names the lowest
- * active voice of the mask, if there is one. So a host reads it once after each
- * frame. Where the mask is 0 it may leave that out: the vector is empty then, or
- * it has a name that was withdrawn, which is read before the next one, so that
- * the next one comes a frame later.
+ * next only in a frame: after a frame that was done and found it empty, it
+ * names the lowest active voice of the mask, if there is one. So a host reads
+ * it once after each frame. Where the mask is 0 it may leave that out: the
+ * vector is empty then, or it has a name that was withdrawn, which is read
+ * before the next one, so that the next one comes a frame later.
  *
- * A host must not go on reading in the hope that the mask becomes 0: between two
- * frames reading takes one voice at most out of it, and a voice that is not
+ * A host must not go on reading in the hope that the mask becomes 0: between
+ * two frames reading takes one voice at most out of it, and a voice that is not
  * active does not enter the vector. Where the vector does not name it already,
  * such a voice stays in the mask until its CR is written without IRQ, until it
  * is active again and its interrupt is taken, or until a reset.

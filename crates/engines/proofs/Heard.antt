@@ -1,6 +1,6 @@
 -- Frames computed from their definition. In order: two notes, and a record that plays some; the frame of a record; a table of chords
 -- and what is heard of them, with its theorem; one of voices and how many words they miss, with its theorem; one note's first frame, and its
--- second; a record in which a voice waits. Assumes nothing.
+-- second; records in which a voice waits, and the vector after their frames. Assumes nothing.
 --
 -- The rows of chords show what becomes of channel sums past the rails. A sum held after each voice would be heard: nine voices would give what
 -- eight do, and high and low voices together would depend on which came first.
@@ -21,7 +21,7 @@ use Rattle.address.specs.Address.{raised, forwardEvent, forward, stepped}
 use Rattle.sample.specs.Sample.{firstAt, secondAt, sampleOf, fetched, fraction, interpolated, missingOf}
 use Rattle.voice.specs.Turn.{lastOutputs, rampedLevels, withOutputs, moved, stoppedTurn, sampled, runningTurn, turnOf}
 use Rattle.answer.specs.declared.Answer.{Answer}
-use Rattle.answer.specs.declared.Answer.the-variants.{Done}
+use Rattle.answer.specs.declared.Answer.the-variants.{Done, OutputLength}
 use Rattle.machine.specs.Words.{CR, ACCUM, ACTV, voiceWord, sharedBits, bitsOf, cut, cutTo, isVector, hasTrueMask, waitingVoices, withMask, valid, IRQV, NO_INTERRUPT}
 use Rattle.machine.specs.Voices.{voiceAt, putVoice}
 use Rattle.machine.specs.Check.{checked}
@@ -167,17 +167,19 @@ pub one-waits : maskGiven flagged ≡ 1
 unfolding framed maskGiven
 one-waits = refl
 
--- what the vector is after a frame
-abbrev vectorAfter : List ℕ → List ℤ → ℕ
-vectorAfter m out = getD (frameRecord m memory out) IRQV 0
+-- what a frame answers, and what the vector is after it
+abbrev vectorAfter : List ℕ → List ℤ → Answer × ℕ
+vectorAfter m out = (frameAnswer m memory out, getD (frameRecord m memory out) IRQV 0)
 
 -- an empty one takes the voice that waits; it stays empty where none does, and where the one that does, voice 7, is not active
-pub vectors-after : (vectorAfter flagged silence ≡ 0) × ((vectorAfter one silence ≡ NO_INTERRUPT) × (vectorAfter (set (waitsAlone 7) ACTV 6) silence ≡ NO_INTERRUPT))
+pub vectors-after :
+    (vectorAfter flagged silence ≡ (Done, 0))
+    × ((vectorAfter one silence ≡ (Done, NO_INTERRUPT)) × (vectorAfter (set (waitsAlone 7) ACTV 6) silence ≡ (Done, NO_INTERRUPT)))
 unfolding framed
 vectors-after = (refl, (refl, refl))
 
 -- What frame/proofs/Vector asks of the frame is needed: a vector that names a voice stays, whoever waits; and one that is empty stays so where the
 -- frame is refused, here for want of an output.
-pub vectors-kept : (vectorAfter (set flagged IRQV 5) silence ≡ 5) × (vectorAfter flagged [] ≡ NO_INTERRUPT)
+pub vectors-kept : (vectorAfter (set flagged IRQV 5) silence ≡ (Done, 5)) × (vectorAfter flagged [] ≡ (OutputLength, NO_INTERRUPT))
 unfolding framed
 vectors-kept = (refl, refl)
