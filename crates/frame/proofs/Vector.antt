@@ -1,6 +1,7 @@
 -- The vector after a frame that found it empty is the lowest active voice of the mask as the frame left it, or it is still empty (`frame-vector`); there
 -- is one such vector (`one-lowest`).
--- In order: the lowest of the voices that had their turn; one turn more; all turns; the closing, and the mask for the flags. Assumes nothing.
+-- In order: the lowest of the voices that had their turn; one turn more; all turns; the closing, and the mask for the flags; the theorem, and that it
+-- leaves no choice. Assumes nothing.
 use mathlib.Core.Path.{_≡_, refl, sym, ap, subst, _∙_}
 use mathlib.Core.Bool.{Bool, true, false, cond, _&&_, false≢true}
 use mathlib.Core.List.{List}

@@ -25,9 +25,12 @@ use Rattle.machine.proofs.Parts.{voice-set-shared}
 -- ---- its bits
 
 module _ (m : List ℕ) where
+  flag-le : (v : ℕ) → flagBit m v ≤ 1
+  flag-le v = bit-le IRQ (getD m (voiceWord v CR) 0)
+
   pub bit-waits : (v : ℕ) → v < VOICES → bitOf v (waitingVoices m) ≡ flagBit m v
   unfolding waitingVoices
-  bit-waits v h = mask-bit (flagBit m) (λ u. bit-le IRQ (getD m (voiceWord u CR) 0)) VOICES v h
+  bit-waits v h = mask-bit (flagBit m) flag-le VOICES v h
 
   -- bit v is set exactly where voice v waits
   pub flag-waits : (v : ℕ) → v < VOICES → flagOf v (waitingVoices m) ≡ waits m v
@@ -36,7 +39,7 @@ module _ (m : List ℕ) where
 
   pub waiting-lt : waitingVoices m < 2 ^ 32
   unfolding waitingVoices
-  waiting-lt = mask-below (flagBit m) (λ u. bit-le IRQ (getD m (voiceWord u CR) 0)) VOICES
+  waiting-lt = mask-below (flagBit m) flag-le VOICES
 
   -- so it is 0 exactly where no voice waits
   pub none-waits : waitingVoices m ≡ 0 → (v : ℕ) → v < VOICES → waits m v ≡ false
@@ -62,8 +65,7 @@ pub one-flag : (m n : List ℕ) (v : ℕ) → v < VOICES
     → ((u : ℕ) → u < VOICES → u ≢ v → getD n (voiceWord u CR) 0 ≡ getD m (voiceWord u CR) 0)
     → waitingVoices n ≡ withBit v (flagBit n v) (waitingVoices m)
 unfolding waitingVoices
-one-flag m n v h e =
-    mask-changed (flagBit m) (flagBit n) (λ u. bit-le IRQ (getD m (voiceWord u CR) 0)) VOICES v h (λ u l d. ap (bitOf IRQ) (e u l d))
+one-flag m n v h e = mask-changed (flagBit m) (flagBit n) (flag-le m) VOICES v h (λ u l d. ap (bitOf IRQ) (e u l d))
 
 -- n has all of them
 pub same-flags : (m n : List ℕ) → ((u : ℕ) → u < VOICES → getD n (voiceWord u CR) 0 ≡ getD m (voiceWord u CR) 0) → waitingVoices n ≡ waitingVoices m
