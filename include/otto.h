@@ -14,10 +14,11 @@
  * threads may ask about one record at once, but not while any other call on it
  * runs.
  *
- * Every pointer must be aligned for its type, must point at as many values as
- * the length after it says, or at one where no length comes after it, and must
- * not be null, even where that length is 0. Buffers of one call must not
- * overlap.
+ * Every pointer must be aligned for its type and must point at as many values
+ * as the length after it says, or at one where no length comes after it. Where
+ * that length is 0 it may be null, as that of an empty std::vector is: nothing
+ * is read or written through it. No other pointer may be null. Buffers of one
+ * call must not overlap.
  *
  * A call on a record, and an import, answers 0 or the number of its refusal.
  * It asks in the order in which its refusals are listed below, and a refused
@@ -40,7 +41,11 @@ extern "C" {
 
 #define OTTO_RECORD_WORDS      664u
 #define OTTO_OUTPUT_VALUES     12u      /* channels 0 to 5, left then right */
-#define OTTO_MOST_MEMORY_WORDS 8388608u /* four banks of 2,097,152 words */
+#define OTTO_VOICES            32u
+#define OTTO_LEAST_ACTV        4u       /* that a frame takes: five voices */
+#define OTTO_WHOLE_SAMPLE      2048u    /* in FC, START, END and ACCUM */
+#define OTTO_BANK_WORDS        2097152u
+#define OTTO_MOST_MEMORY_WORDS 8388608u /* four banks */
 #define OTTO_MOST_FILE_BYTES   65536u   /* of a WAVE file */
 
 /* ---- answers ------------------------------------------------------------- */
@@ -49,8 +54,8 @@ extern "C" {
 #define OTTO_RECORD_LENGTH  1u /* the record is not 664 words */
 #define OTTO_RECORD_INVALID 2u /* a word has a bit or value it may not have, or
                                   the mask of waiting voices is not true */
-#define OTTO_ADDRESS        3u /* the byte address is above 63 */
-#define OTTO_POT            4u /* the pot result is above 1023 */
+#define OTTO_ADDRESS_ABOVE  3u /* the byte address is above 63 */
+#define OTTO_POT_ABOVE      4u /* the pot result is above 1023 */
 #define OTTO_MEMORY_LENGTH  5u /* sample memory is longer than four banks */
 #define OTTO_OUTPUT_LENGTH  6u /* the output is not 12 values */
 #define OTTO_TOO_FEW_VOICES 7u /* ACTV is below 4: fewer than five active */
@@ -64,6 +69,153 @@ extern "C" {
                                   point, or its type is none of 0, 1, 2 */
 #define OTTO_NO_PLACE      24u /* memory or the bank ends before the samples do,
                                   or END is more than its register holds */
+
+/* ---- registers ----------------------------------------------------------- */
+
+/*
+ * A register has a number, 0 to 15, on a page, 0 to 127; the register PAGE says
+ * which page the host is on. Voice v has its registers on two pages. Of each
+ * register the bits that are listed are kept, and the others read as 0.
+ *
+ * OTTO_ADDRESS is the address of a register's byte, for otto_write and
+ * otto_read. Byte 0 is the highest, bits 31 to 24, and byte 3 the lowest.
+ */
+#define OTTO_ADDRESS(number, byte) (4u * (number) + (byte))
+
+#define OTTO_PAGE_LOWER(voice) (voice)
+#define OTTO_PAGE_UPPER(voice) (32u + (voice))
+#define OTTO_PAGE_CHANNELS     64u /* 65 to 127 are as this one */
+
+/* On every page. PAR and IRQV are to be read: writing them changes neither. */
+#define OTTO_PAR      13u /* 9..0   the pot's result, 1023 once it was read */
+#define OTTO_IRQV     14u /* 7..0   the interrupt vector: a voice, or none */
+#define OTTO_PAGE     15u /* 6..0   the page */
+
+#define OTTO_NO_VOICE 128u /* in the vector where it is empty */
+
+/*
+ * On page OTTO_PAGE_LOWER(v), 0 to 31: levels and pitch of voice v. ACTV and
+ * MODE are one for all voices.
+ *
+ * A volume is an exponent E in bits 15 to 12 and a mantissa M in bits 11 to 4:
+ * it makes a sound (256 + M) / 511 * 2^(E - 15) of the loudest. So 0x1000 more
+ * is twice the sound, 6 dB, and 0xFFF0 the loudest. 0 is not silence: where the
+ * loudest volume gives 523,248 it still gives 7. Bits 3 to 0 are not heard, but
+ * ramps count through them.
+ *
+ * K1 and K2 are 12 bits at the top, the other four as in a volume. In a low
+ * pass 0xFFF0 lets nearly all through, and 0, which a reset leaves there,
+ * nothing: a voice with K1 0, or with LP4 in CR and K2 0, is silent, while
+ * every call answers 0. In a high pass 0xFFF0 is the lowest cutoff and 0 the
+ * highest.
+ *
+ * A ramp is a signed number, -128 to 127, in bits 15 to 8. While ECOUNT is not
+ * 0, each frame of a running voice adds the four ramps to LVOL, RVOL, K2 and
+ * K1, held to 0 and 65535, and takes 1 off ECOUNT. A slow ramp, bit 0 of K2RAMP
+ * or K1RAMP, moves its K in every eighth frame only.
+ */
+#define OTTO_CR       0u  /* 15..0  control, on both pages: see below */
+#define OTTO_FC       1u  /* 16..0  2048ths of a sample to go each frame */
+#define OTTO_LVOL     2u  /* 15..0  left volume */
+#define OTTO_LVRAMP   3u  /* 15..8  and its ramp */
+#define OTTO_RVOL     4u  /* 15..0  right volume */
+#define OTTO_RVRAMP   5u  /* 15..8 */
+#define OTTO_ECOUNT   6u  /* 8..0   frames that the ramps still run, to 511 */
+#define OTTO_K2       7u  /* 15..0  filter poles 3 and 4, as CR says */
+#define OTTO_K2RAMP   8u  /* 15..8  and 0 */
+#define OTTO_K1       9u  /* 15..0  filter poles 1 and 2, and 3 with LP3 */
+#define OTTO_K1RAMP   10u /* 15..8  and 0 */
+#define OTTO_ACTV     11u /* 4..0   the last active voice, 31 after a reset */
+#define OTTO_MODE     12u /* 4..0   kept, and of no effect */
+
+/*
+ * On page OTTO_PAGE_UPPER(v), 32 to 63: where voice v reads, and what its
+ * filter remembers. START, END and ACCUM are in 2048ths of a sample from the
+ * bank's first word on; START keeps whole samples, and END sixteenths. W_ST,
+ * W_END and LR_END are one for all voices.
+ */
+#define OTTO_START    1u  /* 31..11 */
+#define OTTO_END      2u  /* 31..7 */
+#define OTTO_ACCUM    3u  /* 31..0  where the voice is */
+#define OTTO_O4_N1    4u  /* 17..0  the last output of pole 4, signed */
+#define OTTO_O3_N1    5u  /* 17..0  of pole 3 */
+#define OTTO_O3_N2    6u  /* 17..0  and the one before it */
+#define OTTO_O2_N1    7u  /* 17..0  of pole 2 */
+#define OTTO_O2_N2    8u  /* 17..0  and the one before it */
+#define OTTO_O1_N1    9u  /* 17..0  of pole 1 */
+#define OTTO_W_ST     10u /* 6..0   kept, and of no effect, as the next two */
+#define OTTO_W_END    11u /* 6..0 */
+#define OTTO_LR_END   12u /* 6..0 */
+
+/* On page OTTO_PAGE_CHANNELS: the sums of the channels, 0 to 5, 23 bits, which
+   the host may write, for the next frame to add to, and which read as 0. */
+#define OTTO_CHANNEL_LEFT(channel)  (2u * (channel))
+#define OTTO_CHANNEL_RIGHT(channel) (2u * (channel) + 1u)
+
+/* ---- the control register, CR -------------------------------------------- */
+
+/*
+ * A voice runs where both stop bits are 0. What it does when it passes END, or
+ * in reverse START, is a loop event:
+ *
+ *   neither LPE nor BLE   it stands on END (START) and stops: STP0 is set
+ *   LPE                   it goes on from START (END)
+ *   BLE                   the same, once: BLE is cleared and LEI set
+ *   LPE and BLE           it turns there and goes back: DIR changes
+ *
+ * By as much as it was past the one point it is then past the other, or on the
+ * way back. With LEI there is no loop event, whatever else is set.
+ *
+ * The four poles of the filter stand one behind the other. Poles 1 and 2 are
+ * low passes with K1; the two bits decide over poles 3 and 4:
+ *
+ *   neither               high pass K2, high pass K2
+ *   LP3                   low pass K1, high pass K2
+ *   LP4                   low pass K2, low pass K2
+ *   LP3 and LP4           low pass K1, low pass K2
+ */
+#define OTTO_CR_STP0        0x0001u /* stopped; a loop event sets it */
+#define OTTO_CR_STP1        0x0002u /* stopped; only the host sets it */
+#define OTTO_CR_LEI         0x0004u /* no loop events */
+#define OTTO_CR_LPE         0x0008u /* the voice loops */
+#define OTTO_CR_BLE         0x0010u /* with LPE: there and back */
+#define OTTO_CR_IRQE        0x0020u /* a loop event sets IRQ */
+#define OTTO_CR_DIR         0x0040u /* in reverse */
+#define OTTO_CR_IRQ         0x0080u /* the voice's interrupt waits */
+#define OTTO_CR_LP3         0x0100u
+#define OTTO_CR_LP4         0x0200u
+#define OTTO_CR_CA(channel) (0x0400u * (channel)) /* the channel, 0 to 5; 6 and
+                                                     7 add nowhere */
+#define OTTO_CR_CMPD        0x2000u /* memory has codes: see otto_expand */
+#define OTTO_CR_BS(bank)    (0x4000u * (bank)) /* the bank, 0 to 3 */
+
+/* ---- the record's words -------------------------------------------------- */
+
+/*
+ * The record is the host's own: between calls a host may look at its words,
+ * copy it, keep it and bring it back, and write words itself, which the next
+ * call checks. A word has its register's bits where the register has them, and
+ * 0 in all others. CR and registers 1 to 10 of a voice's lower page are at
+ * record[OTTO_WORD_LOWER(voice, number)], registers 1 to 9 of its upper page
+ * at record[OTTO_WORD_UPPER(voice, number)].
+ */
+#define OTTO_WORD_LOWER(voice, number) (20u * (voice) + (number))
+#define OTTO_WORD_UPPER(voice, number) (20u * (voice) + 10u + (number))
+
+#define OTTO_WORD_PAGE        640u
+#define OTTO_WORD_IRQV        641u
+#define OTTO_WORD_PAR         642u
+#define OTTO_WORD_ACTV        643u
+#define OTTO_WORD_MODE        644u
+#define OTTO_WORD_W_ST        645u
+#define OTTO_WORD_W_END       646u
+#define OTTO_WORD_LR_END      647u
+#define OTTO_WORD_SLOW        648u /* the slow ramps' counter, 0 to 7: they move
+                                      where it is 0 */
+#define OTTO_WORD_WRITE_LATCH 649u
+#define OTTO_WORD_READ_LATCH  650u
+#define OTTO_WORD_SUMS        651u /* of channels 0 to 5, left then right */
+#define OTTO_WORD_WAITING     663u /* the waiting voices: see otto_waiting */
 
 /* ---- the machine --------------------------------------------------------- */
 
@@ -132,11 +284,6 @@ uint32_t otto_frame(uint32_t *record, size_t words, const uint16_t *memory,
                     size_t memory_words, int32_t *output,
                     size_t output_values, uint32_t *missing);
 
-/* The record's word that has the mask of the waiting voices, and the bit of CR
-   that is a voice's interrupt flag. */
-#define OTTO_WAIT_MASK 663u
-#define OTTO_CR_IRQ    0x80u
-
 /*
  * Which voices wait, as a mask: bit v is the IRQ bit of voice v, bit 7 of its
  * CR. All 32 voices count, active or not. *mask is always set, to 0 where the
@@ -166,7 +313,7 @@ uint32_t otto_frame(uint32_t *record, size_t words, const uint16_t *memory,
  * is active again and its interrupt is taken, or until a reset.
  *
  * The mask is a word of the record, and no call makes it false; a reset makes
- * it 0. Between calls a host may look at record[OTTO_WAIT_MASK] itself; no
+ * it 0. Between calls a host may look at record[OTTO_WORD_WAITING] itself; no
  * register shows it. A host that stores a CR into the record itself, for voice
  * v at record[20 * v], or brings a record from elsewhere, must make the mask
  * true: where bit v of it is not bit 7 of record[20 * v], for any v from 0 to
@@ -187,11 +334,6 @@ uint8_t otto_compress(int16_t sample);
 int16_t otto_expand(uint8_t code);
 
 /* ---- WAVE files ---------------------------------------------------------- */
-
-/* The loop bits of CR, as otto_import gives them. */
-#define OTTO_CR_LPE 0x08u /* the voice loops */
-#define OTTO_CR_BLE 0x10u /* with LPE: there and back */
-#define OTTO_CR_DIR 0x40u /* in reverse */
 
 /*
  * Imports a RIFF/WAVE file of at most 65,536 bytes, which the host has read or

@@ -346,7 +346,7 @@ uint32_t pair_waiting(size_t words)
         stop("waiting", "the record is not as it was");
     }
     if (answers[0] == OTTO_DONE) {
-        if (lents[0].mask[-1] != pair_word(OTTO_WAIT_MASK)) {
+        if (lents[0].mask[-1] != pair_word(OTTO_WORD_WAITING)) {
             stop("waiting", "the mask is not the record's word");
         }
         if (lents[0].mask[-1] != pair_flags()) {

@@ -1,21 +1,19 @@
 /*
- * demo FULL.wav CUT.wav: a held note on a loop of about fifty samples, played
- * through the public calls, once with all of END and once with the four bits
- * cut off that END keeps below the whole sample. Prints the pitch of each.
+ * held_note FULL.wav CUT.wav: a held note on a loop of about fifty samples,
+ * played through the public calls, once with all of END and once with the four
+ * bits cut off that END keeps below the whole sample. Prints the pitch of each.
  *
  * A player that drops those bits makes the loop up to 15/16 of a sample too
  * short. In a loop of fifty samples that is a third of a semitone.
  */
 #include <math.h>
-#include <stdio.h>
-#include <stdlib.h>
 
-#include "otto.h"
+#include "machine.h"
 
 #define RATE    31250   /* frames a second with 32 voices at 16 MHz */
 #define SECONDS 4
 #define FRAMES  (SECONDS * RATE)
-#define SAMPLE  2048u   /* one whole sample, in steps of an address */
+#define SAMPLE  OTTO_WHOLE_SAMPLE
 #define START   (4u * SAMPLE)
 #define END     (START + 50u * SAMPLE + 15u * (SAMPLE / 16u))
 #define CUT     (END / SAMPLE * SAMPLE)
@@ -24,7 +22,7 @@
 
 #define PI 3.14159265358979323846
 
-static uint32_t record[OTTO_RECORD_WORDS];
+static uint32_t machine[OTTO_RECORD_WORDS];
 static uint16_t memory[MEMORY];
 static int16_t sound[FRAMES];
 
@@ -41,46 +39,29 @@ static void make_wave(void)
     }
 }
 
-static void must(uint32_t answer)
-{
-    if (answer != OTTO_DONE) {
-        fprintf(stderr, "demo: refused with %u\n", (unsigned)answer);
-        exit(1);
-    }
-}
-
 /* The note stays in the memory that is lent to it. */
 static void must_have(uint32_t missing)
 {
     if (missing != 0) {
-        fprintf(stderr, "demo: %u words are missing\n", (unsigned)missing);
+        fprintf(stderr, "%u words are missing\n", (unsigned)missing);
         exit(1);
-    }
-}
-
-/* A register is written by its four bytes, highest first. */
-static void put(uint32_t number, uint32_t value)
-{
-    for (uint32_t byte = 0; byte < 4; byte++) {
-        must(otto_write(record, OTTO_RECORD_WORDS, 4 * number + byte,
-                        (uint8_t)(value >> (24 - 8 * byte))));
     }
 }
 
 /* Voice 0 at full volume, its four poles open, on a loop to the end given. */
 static void start_note(uint32_t end)
 {
-    must(otto_reset(record, OTTO_RECORD_WORDS));
-    put(1, FC);
-    put(2, 0xFFF0u);  /* LVOL */
-    put(4, 0xFFF0u);  /* RVOL */
-    put(7, 0xFFF0u);  /* K2 */
-    put(9, 0xFFF0u);  /* K1 */
-    put(15, 32);      /* the page with the upper half of voice 0 */
-    put(1, START);
-    put(2, end);
-    put(3, START);    /* ACCUM */
-    put(0, 0x0308u);  /* CR: four low-pass poles, loop, run */
+    must(otto_reset(machine, OTTO_RECORD_WORDS));
+    put(machine, OTTO_FC, FC);
+    put(machine, OTTO_LVOL, 0xFFF0);
+    put(machine, OTTO_RVOL, 0xFFF0);
+    put(machine, OTTO_K2, 0xFFF0);
+    put(machine, OTTO_K1, 0xFFF0);
+    put(machine, OTTO_PAGE, OTTO_PAGE_UPPER(0u));
+    put(machine, OTTO_START, START);
+    put(machine, OTTO_END, end);
+    put(machine, OTTO_ACCUM, START);
+    put(machine, OTTO_CR, OTTO_CR_LP3 | OTTO_CR_LP4 | OTTO_CR_LPE);
 }
 
 static void play(uint32_t end)
@@ -90,7 +71,7 @@ static void play(uint32_t end)
 
     start_note(end);
     for (size_t i = 0; i < FRAMES; i++) {
-        must(otto_frame(record, OTTO_RECORD_WORDS, memory, MEMORY, output,
+        must(otto_frame(machine, OTTO_RECORD_WORDS, memory, MEMORY, output,
                         OTTO_OUTPUT_VALUES, &missing));
         must_have(missing);
         sound[i] = (int16_t)(output[0] / 16);
@@ -164,7 +145,7 @@ static void render(const char *name, const char *what, uint32_t end)
 int main(int words, char **word)
 {
     if (words != 3) {
-        fprintf(stderr, "demo FULL.wav CUT.wav\n");
+        fprintf(stderr, "held_note FULL.wav CUT.wav\n");
         return 2;
     }
     make_wave();
