@@ -1,18 +1,19 @@
 /*
  * libotto: the voice engine of the ES5506, for hosts in C and C++.
  *
- * The engine owns nothing. The host lends a machine record of 664 words to
- * every call on a machine, to a frame also sample memory, an output and a
- * place for a number, to a read a place for a byte, and to otto_waiting a
- * place for a mask; to an import, which needs no record, the bytes of a file,
- * sample memory and places for four numbers. What a call does is fixed by what
- * is lent and nothing else. There is no global state, no allocation and no
- * lock, and no file is opened, so any number of records may be in use, and two
- * threads may call at once if neither lends a buffer that the other one's call
- * may change. A frame only reads sample memory: threads may share it, but not
- * while one of them imports into it. otto_waiting only reads the record:
- * threads may ask about one record at once, but not while any other call on it
- * runs.
+ * The engine owns nothing: the host lends each call what it works on. A machine
+ * is a record of 664 words, which every call on it is lent. A frame is also
+ * lent sample memory, an output and a place for a number, a read a place for a
+ * byte, and otto_waiting a place for a mask. An import needs no record: it is
+ * lent the bytes of a file, sample memory and places for four numbers.
+ *
+ * What a call does is fixed by what is lent and nothing else. There is no
+ * global state, no allocation and no lock, and no file is opened, so any number
+ * of records may be in use, and two threads may call at once if neither lends a
+ * buffer that the other one's call may change. A frame only reads sample
+ * memory: threads may share it, but not while one of them imports into it.
+ * otto_waiting only reads the record: threads may ask about one record at once,
+ * but not while any other call on it runs.
  *
  * Every pointer must be aligned for its type and must point at as many values
  * as the length after it says, or at one where no length comes after it. Where
@@ -42,6 +43,7 @@ extern "C" {
 #define OTTO_RECORD_WORDS      664u
 #define OTTO_OUTPUT_VALUES     12u      /* channels 0 to 5, left then right */
 #define OTTO_VOICES            32u
+#define OTTO_CHANNELS          6u
 #define OTTO_LEAST_ACTV        4u       /* that a frame takes: five voices */
 #define OTTO_WHOLE_SAMPLE      2048u    /* in FC, START, END and ACCUM */
 #define OTTO_BANK_WORDS        2097152u
@@ -74,15 +76,18 @@ extern "C" {
 
 /*
  * A register has a number, 0 to 15, on a page, 0 to 127; the register PAGE says
- * which page the host is on. Voice v has its registers on two pages. Of each
- * register the bits that are listed are kept, and the others read as 0.
+ * which page the host is on. Voice v has its registers on two pages. A number
+ * means another register on another page, and no call knows which was meant:
+ * START written on a lower page is FC. Of each register the bits that are
+ * listed are kept, and the others read as 0.
  *
  * OTTO_ADDRESS is the address of a register's byte, for otto_write and
- * otto_read. Byte 0 is the highest, bits 31 to 24, and byte 3 the lowest.
+ * otto_read. Byte 0 is the highest, bits 31 to 24, and byte 3 the lowest. What
+ * the macros are given is unsigned.
  */
 #define OTTO_ADDRESS(number, byte) (4u * (number) + (byte))
 
-#define OTTO_PAGE_LOWER(voice) (voice)
+#define OTTO_PAGE_LOWER(voice) (0u + (voice))
 #define OTTO_PAGE_UPPER(voice) (32u + (voice))
 #define OTTO_PAGE_CHANNELS     64u /* 65 to 127 are as this one */
 
@@ -99,9 +104,9 @@ extern "C" {
  *
  * A volume is an exponent E in bits 15 to 12 and a mantissa M in bits 11 to 4:
  * it makes a sound (256 + M) / 511 * 2^(E - 15) of the loudest. So 0x1000 more
- * is twice the sound, 6 dB, and 0xFFF0 the loudest. 0 is not silence: where the
- * loudest volume gives 523,248 it still gives 7. Bits 3 to 0 are not heard, but
- * ramps count through them.
+ * is twice the sound, 6 dB, and 0xFFF0 the loudest. 0 is not silence but 96 dB
+ * below the loudest: a full sample still gives 7, of 524,287. Bits 3 to 0 are
+ * not heard, but ramps count through them.
  *
  * K1 and K2 are 12 bits at the top, the other four as in a volume. In a low
  * pass 0xFFF0 lets nearly all through, and 0, which a reset leaves there,
@@ -110,17 +115,22 @@ extern "C" {
  * highest.
  *
  * A ramp is a signed number, -128 to 127, in bits 15 to 8. While ECOUNT is not
- * 0, each frame of a running voice adds the four ramps to LVOL, RVOL, K2 and
- * K1, held to 0 and 65535, and takes 1 off ECOUNT. A slow ramp, bit 0 of K2RAMP
- * or K1RAMP, moves its K in every eighth frame only.
+ * 0, each frame of a running voice adds its ramp to each of LVOL, RVOL, K2 and
+ * K1, held to 0 and 65535, and takes 1 off ECOUNT. So ECOUNT sets all four off:
+ * one that is not to move needs ramp 0. A slow ramp, bit 0 of K2RAMP or K1RAMP,
+ * moves its K in every eighth frame only.
  */
+#define OTTO_VOL_LOUDEST 0xFFF0u
+#define OTTO_K_OPEN      0xFFF0u
+#define OTTO_MOST_ECOUNT 511u
+
 #define OTTO_CR       0u  /* 15..0  control, on both pages: see below */
 #define OTTO_FC       1u  /* 16..0  2048ths of a sample to go each frame */
 #define OTTO_LVOL     2u  /* 15..0  left volume */
 #define OTTO_LVRAMP   3u  /* 15..8  and its ramp */
 #define OTTO_RVOL     4u  /* 15..0  right volume */
 #define OTTO_RVRAMP   5u  /* 15..8 */
-#define OTTO_ECOUNT   6u  /* 8..0   frames that the ramps still run, to 511 */
+#define OTTO_ECOUNT   6u  /* 8..0   frames that the four ramps still run */
 #define OTTO_K2       7u  /* 15..0  filter poles 3 and 4, as CR says */
 #define OTTO_K2RAMP   8u  /* 15..8  and 0 */
 #define OTTO_K1       9u  /* 15..0  filter poles 1 and 2, and 3 with LP3 */
@@ -148,23 +158,26 @@ extern "C" {
 #define OTTO_LR_END   12u /* 6..0 */
 
 /* On page OTTO_PAGE_CHANNELS: the sums of the channels, 0 to 5, 23 bits, which
-   the host may write, for the next frame to add to, and which read as 0. */
+   the host may write, for the next frame to add to, and which read as 0. The
+   output of a frame has the channels at the same numbers. */
 #define OTTO_CHANNEL_LEFT(channel)  (2u * (channel))
 #define OTTO_CHANNEL_RIGHT(channel) (2u * (channel) + 1u)
 
 /* ---- the control register, CR -------------------------------------------- */
 
 /*
- * A voice runs where both stop bits are 0. What it does when it passes END, or
- * in reverse START, is a loop event:
+ * A voice runs where both stop bits are 0. A frame first plays what is at ACCUM
+ * and then goes on by FC. Where that passes END, or in reverse START, there is
+ * a loop event:
  *
- *   neither LPE nor BLE   it stands on END (START) and stops: STP0 is set
+ *   neither LPE nor BLE   it stops: STP0 is set, and ACCUM becomes END (START)
  *   LPE                   it goes on from START (END)
  *   BLE                   the same, once: BLE is cleared and LEI set
  *   LPE and BLE           it turns there and goes back: DIR changes
  *
  * By as much as it was past the one point it is then past the other, or on the
- * way back. With LEI there is no loop event, whatever else is set.
+ * way back; the next test is in the next frame. With LEI there is no loop
+ * event, whatever else is set.
  *
  * The four poles of the filter stand one behind the other. Poles 1 and 2 are
  * low passes with K1; the two bits decide over poles 3 and 4:
@@ -221,17 +234,19 @@ extern "C" {
 
 /*
  * Makes the record that of a machine after power-on, whatever it held: every
- * voice stopped, page 0, no interrupt waiting. A new record needs this first.
+ * voice stopped, by both stop bits, with 0 in all its other bits and registers;
+ * page 0, no interrupt waiting, PAR 1023, ACTV 31, MODE 23. A new record needs
+ * this first.
  *
  * Refusals: 1.
  */
 uint32_t otto_reset(uint32_t *record, size_t words);
 
 /*
- * The host writes one byte. address is 4 x register + byte, byte 0 being the
- * highest; the page register, number 15, says whose registers these are.
- * Bytes gather in a latch, and byte 3 sends all four off: to write a register,
- * write its bytes 0 to 3 in order.
+ * The host writes one byte, at OTTO_ADDRESS(register, byte). Bytes gather in a
+ * latch, one for all registers. Byte 3 stores all four in its register and
+ * clears the latch: to write a register, write its bytes 0 to 3 in order, or
+ * leave out the first ones where they are 0.
  *
  * Refusals: 1, 2, 3.
  */

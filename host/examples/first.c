@@ -6,9 +6,9 @@
 int main(void)
 {
     static const uint32_t settings[][2] = {
-        { OTTO_LVOL, 0xFFF0 },
-        { OTTO_K2, 0xFFF0 },
-        { OTTO_K1, 0xFFF0 },
+        { OTTO_LVOL, OTTO_VOL_LOUDEST },
+        { OTTO_K2, OTTO_K_OPEN },
+        { OTTO_K1, OTTO_K_OPEN },
         { OTTO_CR, OTTO_CR_LP3 | OTTO_CR_LP4 }, /* neither stop bit: it runs */
     };
     const uint16_t memory[2] = { 20000, 20000 };

@@ -53,10 +53,10 @@ static void start_note(uint32_t end)
 {
     must(otto_reset(machine, OTTO_RECORD_WORDS));
     put(machine, OTTO_FC, FC);
-    put(machine, OTTO_LVOL, 0xFFF0);
-    put(machine, OTTO_RVOL, 0xFFF0);
-    put(machine, OTTO_K2, 0xFFF0);
-    put(machine, OTTO_K1, 0xFFF0);
+    put(machine, OTTO_LVOL, OTTO_VOL_LOUDEST);
+    put(machine, OTTO_RVOL, OTTO_VOL_LOUDEST);
+    put(machine, OTTO_K2, OTTO_K_OPEN);
+    put(machine, OTTO_K1, OTTO_K_OPEN);
     put(machine, OTTO_PAGE, OTTO_PAGE_UPPER(0u));
     put(machine, OTTO_START, START);
     put(machine, OTTO_END, end);

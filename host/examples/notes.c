@@ -89,8 +89,8 @@ static void start_note(uint32_t voice, const struct note *note)
     put(machine, OTTO_FC, note->fc);
     put(machine, OTTO_LVOL, note->left);
     put(machine, OTTO_RVOL, note->right);
-    put(machine, OTTO_K1, 0xFFF0);
-    put(machine, OTTO_K2, 0xFFF0);
+    put(machine, OTTO_K1, OTTO_K_OPEN);
+    put(machine, OTTO_K2, OTTO_K_OPEN);
 
     put(machine, OTTO_PAGE, OTTO_PAGE_UPPER(voice));
     put(machine, OTTO_START, note->start);
@@ -108,14 +108,22 @@ static void retune(uint32_t voice, uint32_t fc)
     put(machine, OTTO_FC, fc);
 }
 
-/* Both volumes fall by 128 each frame, 6 dB in 32 frames. */
-static void release(uint32_t voice)
+/* A signed number, -128 to 127, as a ramp register has it. */
+static uint32_t ramp(int32_t step)
+{
+    return (uint32_t)(step & 0xFF) << 8;
+}
+
+/* ECOUNT sets all four ramps off, so all four are set. */
+static void ramp_volumes(uint32_t voice, int32_t step, uint32_t count)
 {
     put(machine, OTTO_PAGE, OTTO_PAGE_LOWER(voice));
     put(machine, OTTO_ECOUNT, 0);
-    put(machine, OTTO_LVRAMP, 0x8000);
-    put(machine, OTTO_RVRAMP, 0x8000);
-    put(machine, OTTO_ECOUNT, 511);
+    put(machine, OTTO_LVRAMP, ramp(step));
+    put(machine, OTTO_RVRAMP, ramp(step));
+    put(machine, OTTO_K2RAMP, 0);
+    put(machine, OTTO_K1RAMP, 0);
+    put(machine, OTTO_ECOUNT, count);
 }
 
 static void stop(uint32_t voice)
@@ -252,10 +260,10 @@ static void after_frame(uint32_t frame)
     if (frame == 10000) {
         retune(1, step_for(495000, 2 * RISE_LENGTH));
     }
-    if (frame == 20000) {
-        release(1);
+    if (frame == 20000) { /* the release: 6 dB less every 32 frames */
+        ramp_volumes(1, -128, OTTO_MOST_ECOUNT);
     }
-    if (frame == 20511) {
+    if (frame == 20000 + OTTO_MOST_ECOUNT) {
         stop(1);
     }
     if (take_interrupt() == 2) {

@@ -74,9 +74,9 @@ static void start_note(const struct import *i)
     uint32_t reverse = i->loop & OTTO_CR_DIR;
 
     put(machine, OTTO_FC, OTTO_WHOLE_SAMPLE);
-    put(machine, OTTO_LVOL, 0xFFF0);
-    put(machine, OTTO_K1, 0xFFF0);
-    put(machine, OTTO_K2, 0xFFF0);
+    put(machine, OTTO_LVOL, OTTO_VOL_LOUDEST);
+    put(machine, OTTO_K1, OTTO_K_OPEN);
+    put(machine, OTTO_K2, OTTO_K_OPEN);
     put(machine, OTTO_PAGE, OTTO_PAGE_UPPER(0u));
     put(machine, OTTO_START, i->start);
     put(machine, OTTO_END, i->end);
