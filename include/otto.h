@@ -199,7 +199,7 @@ extern "C" {
 #define OTTO_CR_LP4         0x0200u
 #define OTTO_CR_CA(channel) (0x0400u * (channel)) /* the channel, 0 to 5; 6 and
                                                      7 add nowhere */
-#define OTTO_CR_CMPD        0x2000u /* memory has codes: see otto_expand */
+#define OTTO_CR_CMPD        0x2000u /* sample memory has codes */
 #define OTTO_CR_BS(bank)    (0x4000u * (bank)) /* the bank, 0 to 3 */
 
 /* ---- the record's words -------------------------------------------------- */
@@ -209,14 +209,14 @@ extern "C" {
  * copy it, keep it and bring it back, and write words itself, which the next
  * call checks. A word has its register's bits where the register has them, and
  * 0 in all others. CR and registers 1 to 10 of a voice's lower page are at
- * record[OTTO_WORD_LOWER(voice, number)], registers 1 to 9 of its upper page
- * at record[OTTO_WORD_UPPER(voice, number)].
+ * record[OTTO_WORD_LOWER(voice, number)], registers 1 to 9 of its upper page,
+ * not CR, at record[OTTO_WORD_UPPER(voice, number)].
  */
 #define OTTO_WORD_LOWER(voice, number) (20u * (voice) + (number))
 #define OTTO_WORD_UPPER(voice, number) (20u * (voice) + 10u + (number))
 
 #define OTTO_WORD_PAGE        640u
-#define OTTO_WORD_IRQV        641u
+#define OTTO_WORD_IRQV        641u /* 0 to 31, or OTTO_NO_VOICE */
 #define OTTO_WORD_PAR         642u
 #define OTTO_WORD_ACTV        643u
 #define OTTO_WORD_MODE        644u
@@ -276,7 +276,9 @@ uint32_t otto_set_pot(uint32_t *record, size_t words, uint32_t pot);
 
 /*
  * Runs one frame: a turn of each active voice. output takes twelve values of
- * 20 bits, -524288 to 524287, in channel order, left before right.
+ * 20 bits, -524288 to 524287, in channel order, left before right. A word of
+ * sample memory is a signed sample of 16 bits, or, for a voice with CMPD in its
+ * CR, a code in the high byte, whose low byte is not looked at.
  *
  * *missing is always set: to how many words of sample memory the frame asked
  * for and missed, 0 to 64, and to 0 where the frame is refused. Each voice

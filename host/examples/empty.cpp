@@ -12,7 +12,9 @@ int main()
     int32_t output[OTTO_OUTPUT_VALUES];
     uint32_t missing;
 
-    otto_reset(machine.data(), machine.size());
+    if (otto_reset(machine.data(), machine.size()) != OTTO_DONE) {
+        return 1;
+    }
     machine[OTTO_WORD_LOWER(0, OTTO_CR)] = 0; // voice 0 runs, and finds nothing
     uint32_t answer =
         otto_frame(machine.data(), machine.size(), memory.data(),

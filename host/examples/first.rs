@@ -23,15 +23,16 @@ fn main() {
     let mut output = [0i32; 12];
     let mut missing = 0;
     let (record, words) = (machine.as_mut_ptr(), machine.len());
+    let mut answers = Vec::new();
 
     // Each pointer is to as many values as its length says, and no two overlap.
-    let mut refused = unsafe { otto_reset(record, words) };
+    answers.push(unsafe { otto_reset(record, words) });
     for (number, value) in SETTINGS {
         for (address, byte) in (4 * number..).zip(value.to_be_bytes()) {
-            refused |= unsafe { otto_write(record, words, address, byte) };
+            answers.push(unsafe { otto_write(record, words, address, byte) });
         }
     }
-    refused |= unsafe {
+    answers.push(unsafe {
         otto_frame(
             record,
             words,
@@ -41,9 +42,7 @@ fn main() {
             output.len(),
             &mut missing,
         )
-    };
-    println!(
-        "refused {}, heard {}, missing {}",
-        refused, output[0], missing
-    );
+    });
+    let refused = answers.into_iter().find(|answer| *answer != 0).unwrap_or(0);
+    println!("refused {refused}, heard {}, missing {missing}", output[0]);
 }

@@ -6,8 +6,8 @@
 
 #include "machine.h"
 
-#define RATE 31250
-#define WAVE 64 /* samples on the loop */
+#define RATE   31250
+#define PERIOD 64 /* samples on the loop */
 
 #define PI 3.14159265358979323846
 
@@ -52,24 +52,24 @@ static uint32_t high_pass(double hertz)
 static double loudness(double hertz, uint32_t vol, uint32_t k2, uint32_t poles)
 {
     uint32_t machine[OTTO_RECORD_WORDS], missing;
-    uint16_t memory[WAVE + 1];
+    uint16_t memory[PERIOD + 1];
     int32_t output[OTTO_OUTPUT_VALUES];
     double squares = 0.0;
 
-    for (int i = 0; i <= WAVE; i++) {
-        memory[i] = (uint16_t)lrint(16000.0 * sin(2.0 * PI * i / WAVE));
+    for (int i = 0; i <= PERIOD; i++) {
+        memory[i] = (uint16_t)lrint(16000.0 * sin(2.0 * PI * i / PERIOD));
     }
     must(otto_reset(machine, OTTO_RECORD_WORDS));
     put(machine, OTTO_FC,
-        (uint32_t)lrint(hertz * WAVE * OTTO_WHOLE_SAMPLE / RATE));
+        (uint32_t)lrint(hertz * PERIOD * OTTO_WHOLE_SAMPLE / RATE));
     put(machine, OTTO_LVOL, vol);
     put(machine, OTTO_K1, OTTO_K_OPEN);
     put(machine, OTTO_K2, k2);
     put(machine, OTTO_PAGE, OTTO_PAGE_UPPER(0u));
-    put(machine, OTTO_END, WAVE * OTTO_WHOLE_SAMPLE);
+    put(machine, OTTO_END, PERIOD * OTTO_WHOLE_SAMPLE);
     put(machine, OTTO_CR, OTTO_CR_LPE | poles);
     for (int i = 0; i < 2 * RATE; i++) {
-        must(otto_frame(machine, OTTO_RECORD_WORDS, memory, WAVE + 1, output,
+        must(otto_frame(machine, OTTO_RECORD_WORDS, memory, PERIOD + 1, output,
                         OTTO_OUTPUT_VALUES, &missing));
         squares += i < RATE ? 0.0 : (double)output[0] * output[0];
     }

@@ -203,52 +203,53 @@ static void convert(struct converter *c, int16_t heard[2])
 
 /* ---- the second ---------------------------------------------------------- */
 
-#define ADDRESS(word) ((word) * OTTO_WHOLE_SAMPLE)
-#define WAVE_LENGTH   (WAVE_16THS * (OTTO_WHOLE_SAMPLE / 16))
-#define RISE_LENGTH   (RISE_STEPS * OTTO_WHOLE_SAMPLE)
-#define DRUM_LENGTH   (DRUM_STEPS * OTTO_WHOLE_SAMPLE)
-#define OPEN          (OTTO_CR_LP3 | OTTO_CR_LP4) /* four low passes */
+#define AT(word)    ((word) * OTTO_WHOLE_SAMPLE)
+#define WAVE_LENGTH (WAVE_16THS * (OTTO_WHOLE_SAMPLE / 16))
+#define RISE_LENGTH (RISE_STEPS * OTTO_WHOLE_SAMPLE)
+#define DRUM_LENGTH (DRUM_STEPS * OTTO_WHOLE_SAMPLE)
+#define LOW_PASSES  (OTTO_CR_LP3 | OTTO_CR_LP4) /* all four poles */
 
 static void start_wave(void)
 {
     const struct note note = {
-        .start = ADDRESS(WAVE),
-        .end = ADDRESS(WAVE) + WAVE_LENGTH,
-        .accum = ADDRESS(WAVE),
+        .start = AT(WAVE),
+        .end = AT(WAVE) + WAVE_LENGTH,
+        .accum = AT(WAVE),
         .fc = step_for(440000, WAVE_LENGTH),
         .left = 0xE000,
         .right = 0xC000,
-        .cr = OPEN | OTTO_CR_LPE,
+        .cr = LOW_PASSES | OTTO_CR_LPE,
     };
 
     start_note(0, &note);
 }
 
-static void start_rise(void)
+static void start_rise(uint32_t voice)
 {
     const struct note note = {
-        .start = ADDRESS(RISE),
-        .end = ADDRESS(RISE) + RISE_LENGTH,
-        .accum = ADDRESS(RISE),
+        .start = AT(RISE),
+        .end = AT(RISE) + RISE_LENGTH,
+        .accum = AT(RISE),
         .fc = step_for(660000, 2 * RISE_LENGTH),
         .left = 0xC000,
         .right = 0xE000,
-        .cr = OPEN | OTTO_CR_LPE | OTTO_CR_BLE | OTTO_CR_CMPD | OTTO_CR_CA(1),
+        .cr = LOW_PASSES | OTTO_CR_LPE | OTTO_CR_BLE | OTTO_CR_CMPD |
+              OTTO_CR_CA(1),
     };
 
-    start_note(1, &note);
+    start_note(voice, &note);
 }
 
 static void start_drum(void)
 {
     const struct note note = {
-        .start = ADDRESS(DRUM),
-        .end = ADDRESS(DRUM) + DRUM_LENGTH,
-        .accum = ADDRESS(DRUM),
+        .start = AT(DRUM),
+        .end = AT(DRUM) + DRUM_LENGTH,
+        .accum = AT(DRUM),
         .fc = OTTO_WHOLE_SAMPLE / 16,
         .left = 0xE000,
         .right = 0xE000,
-        .cr = OPEN | OTTO_CR_IRQE,
+        .cr = LOW_PASSES | OTTO_CR_IRQE,
     };
 
     start_note(2, &note);
@@ -264,7 +265,12 @@ static void after_frame(uint32_t frame)
         ramp_volumes(1, -128, OTTO_MOST_ECOUNT);
     }
     if (frame == 20000 + OTTO_MOST_ECOUNT) {
+        printf("released: volumes %04X, %04X\n",
+               (unsigned)machine[OTTO_WORD_LOWER(1, OTTO_LVOL)],
+               (unsigned)machine[OTTO_WORD_LOWER(1, OTTO_RVOL)]);
         stop(1);
+        printf("stopped: CR %04X\n",
+               (unsigned)machine[OTTO_WORD_LOWER(1, OTTO_CR)]);
     }
     if (take_interrupt() == 2) {
         printf("frame %u: the drum is at its end\n", (unsigned)frame);
@@ -298,6 +304,13 @@ static uint32_t play(int16_t loudest[2])
 
 #define A_WHILE 300u
 
+static void hear(int16_t heard[A_WHILE][2])
+{
+    for (size_t i = 0; i < A_WHILE; i++) {
+        run_frame(heard[i]);
+    }
+}
+
 /* A machine that is kept and brought back plays on as it did. */
 static int plays_on_alike(void)
 {
@@ -305,13 +318,9 @@ static int plays_on_alike(void)
     int16_t first[A_WHILE][2], again[A_WHILE][2];
 
     memcpy(kept, machine, sizeof kept);
-    for (size_t i = 0; i < A_WHILE; i++) {
-        run_frame(first[i]);
-    }
+    hear(first);
     memcpy(machine, kept, sizeof kept);
-    for (size_t i = 0; i < A_WHILE; i++) {
-        run_frame(again[i]);
-    }
+    hear(again);
     return memcmp(first, again, sizeof first) == 0;
 }
 
@@ -328,20 +337,60 @@ static uint32_t answer_to_a_wrong_word(void)
     return answer;
 }
 
-/* ---- all of it ----------------------------------------------------------- */
+/* ---- what the functions above are worth ---------------------------------- */
 
-/* Plays a second at 48,000 samples, and says how many frames that took. */
-static uint32_t play_at_48000(void)
+/* A voice that is taken anew, in the middle of a fade, plays as a fresh one. */
+static int taken_anew_alike(void)
+{
+    int16_t fresh[A_WHILE][2], anew[A_WHILE][2];
+
+    must(otto_reset(machine, OTTO_RECORD_WORDS));
+    start_rise(2);
+    hear(fresh);
+    must(otto_reset(machine, OTTO_RECORD_WORDS));
+    start_drum();
+    ramp_volumes(2, -1, OTTO_MOST_ECOUNT);
+    hear(anew);
+    start_rise(2);
+    hear(anew);
+    return memcmp(fresh, anew, sizeof fresh) == 0;
+}
+
+/* Voices 5 and 6 interrupt, since the host says so, and 5 is withdrawn while
+   the vector names it. Prints what is taken after two frames. */
+static void withdraw(void)
+{
+    const uint32_t waits = OTTO_CR_STP1 | OTTO_CR_IRQ;
+    int16_t heard[2];
+
+    must(otto_reset(machine, OTTO_RECORD_WORDS));
+    put(machine, OTTO_PAGE, OTTO_PAGE_LOWER(6u));
+    put(machine, OTTO_CR, waits);
+    put(machine, OTTO_PAGE, OTTO_PAGE_LOWER(5u));
+    put(machine, OTTO_CR, waits);
+    run_frame(heard);
+    put(machine, OTTO_CR, OTTO_CR_STP1);
+    printf("withdrawn: %u", (unsigned)take_interrupt());
+    run_frame(heard);
+    printf(", then %u\n", (unsigned)take_interrupt());
+}
+
+/* Plays a second at 48,000 samples, and says how many frames that took and how
+   loud it was. */
+static void play_at_48000(void)
 {
     struct converter converter = { .rate = 48000 };
     uint32_t before = frames;
+    int16_t loudest = 0;
 
     for (uint32_t i = 0; i < converter.rate; i++) {
         int16_t heard[2];
 
         convert(&converter, heard);
+        loudest = heard[0] > loudest ? heard[0] : loudest;
     }
-    return frames - before;
+    printf("48000 samples: %u frames, loudest %d\n",
+           (unsigned)(frames - before), loudest);
 }
 
 int main(void)
@@ -351,12 +400,14 @@ int main(void)
     fill_memory();
     must(otto_reset(machine, OTTO_RECORD_WORDS));
     start_wave();
-    start_rise();
+    start_rise(1);
     start_drum();
     printf("voice 0 went round %u times\n", (unsigned)play(loudest));
     printf("loudest left %d, right %d\n", loudest[0], loudest[1]);
+    play_at_48000();
     printf("kept and brought back: %s\n", plays_on_alike() ? "alike" : "not");
     printf("a wrong word: %u\n", (unsigned)answer_to_a_wrong_word());
-    printf("frames for 48000 samples: %u\n", (unsigned)play_at_48000());
+    printf("taken anew: %s\n", taken_anew_alike() ? "alike" : "not");
+    withdraw();
     return 0;
 }

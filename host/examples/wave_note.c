@@ -85,6 +85,7 @@ static void start_note(const struct import *i)
     put(machine, OTTO_CR, OTTO_CR_LP3 | OTTO_CR_LP4 | i->loop);
 }
 
+/* The loudest value of a second. */
 static int32_t play(void)
 {
     int32_t output[OTTO_OUTPUT_VALUES];
@@ -94,8 +95,11 @@ static int32_t play(void)
     for (uint32_t frame = 0; frame < RATE; frame++) {
         must(otto_frame(machine, OTTO_RECORD_WORDS, memory, MEMORY_WORDS,
                         output, OTTO_OUTPUT_VALUES, &missing));
-        if (output[0] > loudest) {
-            loudest = output[0];
+        if (missing != 0) {
+            fprintf(stderr, "%u words are missing\n", (unsigned)missing);
+        }
+        if (abs(output[0]) > loudest) {
+            loudest = abs(output[0]);
         }
     }
     return loudest;
@@ -112,7 +116,9 @@ int main(int words, char **word)
 
         must(otto_reset(machine, OTTO_RECORD_WORDS));
         import = import_file(word[i]);
-        start_note(&import);
+        if (import.samples > 0) { /* else there is nothing to play */
+            start_note(&import);
+        }
         printf("loudest %d\n", play());
     }
     return 0;

@@ -150,8 +150,8 @@ static void check_voice(uint32_t voice)
     }
 }
 
-/* What all voices share, and the sums of the channels. */
-static void check_shared(void)
+/* What all voices share, on the pages of one. */
+static void check_shared(uint32_t voice)
 {
     const struct row actv = ROW(ACTV, BITS(4, 0));
     const struct row mode = ROW(MODE, BITS(4, 0));
@@ -159,19 +159,24 @@ static void check_shared(void)
     const struct row last = ROW(W_END, BITS(6, 0));
     const struct row right = ROW(LR_END, BITS(6, 0));
 
-    check_register(OTTO_PAGE_LOWER(0u), &actv, OTTO_WORD_ACTV);
-    check_register(OTTO_PAGE_LOWER(0u), &mode, OTTO_WORD_MODE);
-    check_register(OTTO_PAGE_UPPER(0u), &first, OTTO_WORD_W_ST);
-    check_register(OTTO_PAGE_UPPER(0u), &last, OTTO_WORD_W_END);
-    check_register(OTTO_PAGE_UPPER(0u), &right, OTTO_WORD_LR_END);
-    for (uint32_t channel = 0; channel < 6; channel++) {
+    check_register(OTTO_PAGE_LOWER(voice), &actv, OTTO_WORD_ACTV);
+    check_register(OTTO_PAGE_LOWER(voice), &mode, OTTO_WORD_MODE);
+    check_register(OTTO_PAGE_UPPER(voice), &first, OTTO_WORD_W_ST);
+    check_register(OTTO_PAGE_UPPER(voice), &last, OTTO_WORD_W_END);
+    check_register(OTTO_PAGE_UPPER(voice), &right, OTTO_WORD_LR_END);
+}
+
+/* The sums of the channels, on a page from OTTO_PAGE_CHANNELS on. */
+static void check_channels(uint32_t page)
+{
+    for (uint32_t channel = 0; channel < OTTO_CHANNELS; channel++) {
         const struct row sums[2] = {
             { "left", OTTO_CHANNEL_LEFT(channel), BITS(22, 0) },
             { "right", OTTO_CHANNEL_RIGHT(channel), BITS(22, 0) },
         };
 
         for (uint32_t side = 0; side < 2; side++) {
-            check_register(OTTO_PAGE_CHANNELS, &sums[side],
+            check_register(page, &sums[side],
                            OTTO_WORD_SUMS + 2 * channel + side);
         }
     }
@@ -200,8 +205,11 @@ int main(void)
 {
     for (uint32_t voice = 0; voice < OTTO_VOICES; voice++) {
         check_voice(voice);
+        check_shared(voice);
     }
-    check_shared();
+    for (uint32_t page = OTTO_PAGE_CHANNELS; page < 128; page++) {
+        check_channels(page);
+    }
     for (uint32_t page = 0; page < 128; page++) {
         check_on_every_page(page);
     }
