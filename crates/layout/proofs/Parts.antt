@@ -1,12 +1,13 @@
 -- Laws of a part of a list, read and replaced.
--- In order: a part's length and its elements; the list with a part replaced: its length, what stands in the part, before it and after it.
+-- In order: a part's length and its elements; the list with a part replaced: its length, what stands in the part, before it and after it; a part of
+-- four put element by element.
 -- Assumes nothing.
 use mathlib.Core.Path.{_≡_, refl, ap, _∙_}
-use mathlib.Core.List.{List, _∷_, _++_}
-use Prim.Native.Nat.{ℕ, suc, _+_, _-_, _≤_, _<_}
+use mathlib.Core.List.{List, [], _∷_, _++_}
+use Prim.Native.Nat.{ℕ, zero, suc, _+_, _-_, _≤_, _<_}
 use native.Mathlib.Numerals.{add-one}
 use native.Mathlib.Omega.{arith}
-use lib.ListN.{length, getD, take, drop, length-append, length-drop, List·getD-append}
+use lib.ListN.{length, getD, set, take, drop, length-append, length-drop, List·getD-append}
 use lib.Seq.{length-take-le, drop-cons, getD-append-add, getD-take, getD-drop, take-at, drop-at}
 use Rattle.layout.specs.Parts.{part, withPart}
 
@@ -48,3 +49,17 @@ module _ {ℓ} {A : Type ℓ} where
         ∙ getD-append-add (take i xs) (ys ++ drop (i + length ys) xs) (length ys + n) d
         ∙ getD-append-add ys (drop (i + length ys) xs) n d
         ∙ getD-drop (i + length ys) xs n d ∙ ap (λ (j : ℕ). getD xs j d) f
+
+-- four elements put one after the other, from index i on, are a part replaced
+pub put-4 : (xs : List ℕ) (i a b c d : ℕ) → i + 4 ≤ length xs → set (set (set (set xs i a) (i + 1) b) (i + 2) c) (i + 3) d ≡ withPart xs i (a ∷ b ∷ c ∷ d ∷ [])
+put-4 [] i a b c d h = absurd (omega arith)
+put-4 (x ∷ []) zero a b c d h = absurd (omega arith)
+put-4 (x ∷ y ∷ []) zero a b c d h = absurd (omega arith)
+put-4 (x ∷ y ∷ z ∷ []) zero a b c d h = absurd (omega arith)
+put-4 (x ∷ y ∷ z ∷ w ∷ xs) zero a b c d h = refl
+put-4 (x ∷ xs) (suc i) a b c d h =
+    let e₁ : suc i + 1 ≡ suc (i + 1) = omega arith in
+    let e₂ : suc i + 2 ≡ suc (i + 2) = omega arith in
+    let e₃ : suc i + 3 ≡ suc (i + 3) = omega arith in
+    let e₄ : suc i + 4 ≡ suc (i + 4) = omega arith in
+    rw (e₁, e₂, e₃, e₄) (ap (λ (l : List ℕ). x ∷ l) (put-4 xs i a b c d (omega arith)))

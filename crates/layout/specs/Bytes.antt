@@ -1,6 +1,7 @@
 -- Numbers written as bytes, in either order.
--- In order: the number that some bytes are; that of two bytes and that of four at a place of a list; a list by twos. Assumes nothing.
-use Prim.Native.Nat.{ℕ, _+_, _*_, _^_}
+-- In order: the number that some bytes are; that of two bytes and that of four at a place of a list; a list by twos; the bytes of a number. Assumes
+-- nothing.
+use Prim.Native.Nat.{ℕ, zero, suc, _+_, _*_, _/_, _%_, _^_}
 use mathlib.Core.List.{List, [], _∷_}
 use lib.ListN.{length}
 use Rattle.layout.specs.Parts.{part}
@@ -33,3 +34,8 @@ unfoldable pub twos : (List ℕ → ℕ) → List ℕ → List ℕ
 twos order [] = []
 twos order (a ∷ []) = []
 twos order (a ∷ b ∷ bytes) = order (a ∷ b ∷ []) ∷ twos order bytes
+
+-- the n lowest bytes of a number, the lowest first
+unfoldable pub littleBytes : ℕ → ℕ → List ℕ
+littleBytes zero x = []
+littleBytes (suc n) x = x % 256 ∷ littleBytes n (x / 256)

@@ -1,10 +1,11 @@
-// Numbers of two and of four bytes, in either order: made of their bytes, and read at a place of a slice.
+// Numbers of two and of four bytes, in either order: made of their bytes, and read at a place of a slice; and the bytes of a number, the lowest first.
 // What the places of a file are is the format's own; here is only how its numbers are written.
 ghost use mathlib.Core.Path.{_≡_};
 ghost use mathlib.Core.List.{[], _∷_};
 ghost use Prim.Native.Nat.{_+_, _≤_};
 ghost use lib.ListN.{length};
-ghost use Rattle.layout.specs.Bytes.{little, big, little2At, little4At, big2At, big4At};
+ghost use Rattle.layout.specs.Parts.{withPart};
+ghost use Rattle.layout.specs.Bytes.{little, big, little2At, little4At, big2At, big4At, littleBytes};
 
 // ---- the lowest byte first
 
@@ -32,6 +33,32 @@ pub fn little4_at(bytes: &[u8], at: usize) -> u32
     ensures { λ r. ⌜ r ≡ little4At (now (bytes .entry)) at ⌝ }
 {
     little4(bytes[at], bytes[at + 1], bytes[at + 2], bytes[at + 3])
+}
+
+pub fn little_bytes2(x: u16) -> [u8; 2]
+    ensures { λ r. ⌜ r ≡ littleBytes 2 x ⌝ }
+{
+    [(x % 256) as u8, (x / 256 % 256) as u8]
+}
+
+pub fn little_bytes4(x: u32) -> [u8; 4]
+    ensures { λ r. ⌜ r ≡ littleBytes 4 x ⌝ }
+{
+    let a = x / 256;
+    let b = a / 256;
+    let c = b / 256;
+    [(x % 256) as u8, (a % 256) as u8, (b % 256) as u8, (c % 256) as u8]
+}
+
+// Four bytes in the place of those from `at` on.
+pub fn put4(bytes: &mut [u8], at: usize, a: u8, b: u8, c: u8, d: u8)
+    requires { ⌜ at + 4 ≤ length (now bytes) ⌝ }
+    ensures { λ _. ⌜ now (bytes .exit) ≡ withPart (now (bytes .entry)) at (a ∷ b ∷ c ∷ d ∷ []) ⌝ }
+{
+    bytes[at] = a;
+    bytes[at + 1] = b;
+    bytes[at + 2] = c;
+    bytes[at + 3] = d;
 }
 
 // ---- the highest byte first

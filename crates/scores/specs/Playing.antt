@@ -1,0 +1,70 @@
+-- A score played, a number of calls at a time.
+-- In order: the calls that are left at a place of the score; frames and refusals of a run; what is heard of it; what one call comes to; what some do.
+-- Assumes nothing.
+use Prim.Native.Nat.{ℕ, suc, _+_, _*_, _/_, _-_}
+use mathlib.Core.Path.{_≡_}
+use mathlib.Core.Bool.{Bool, true, false, cond}
+use mathlib.Core.List.{List, [], _∷_}
+use lib.ListN.{length, take, drop}
+use Rattle.layout.specs.Parts.{withPart}
+use Rattle.answer.specs.Answer.{isDone}
+use Rattle.answer.specs.declared.Answer.{Answer}
+use Rattle.machine.specs.Words.{OUTPUT_VALUES}
+use Rattle.calls.specs.Calls.{Call, Reset, Write, Read, SetPot, Waiting, Frame, answerTo, after, outputFrom, run, answers, outputs}
+use Rattle.scores.specs.Score.{callsFrom, commandCount}
+use Rattle.scores.specs.Sound.{sampleBytes, soundOf}
+use Rattle.scores.specs.declared.Made.{Made}
+use Rattle.scores.specs.declared.Played.{Played}
+
+-- the calls that are left at command k, where so many of its own are made
+abbrev pub leftFrom : List ℕ → List ℕ → ℕ → ℕ → List Call
+leftFrom memory commands k made = drop made (callsFrom memory commands (commandCount commands - k) k)
+
+-- ---- a run
+
+unfoldable pub isFrame : Call → Bool
+isFrame Reset = false
+isFrame (Write a b) = false
+isFrame (Read a) = false
+isFrame (SetPot p) = false
+isFrame Waiting = false
+isFrame (Frame memory out) = true
+
+unfoldable pub framesIn : List Call → ℕ
+framesIn [] = 0
+framesIn (c ∷ cs) = cond (isFrame c) 1 0 + framesIn cs
+
+unfoldable pub refusals : List Answer → ℕ
+refusals [] = 0
+refusals (a ∷ rest) = cond (isDone a) 0 1 + refusals rest
+
+-- what is heard of the calls, made one after the other on the record m
+unfoldable pub heardFrom : List ℕ → List Call → List ℕ
+heardFrom m cs = soundOf (framesIn cs) (outputs m cs)
+
+-- ---- one call
+
+-- what is heard of it: four bytes of a frame, nothing of another
+unfoldable pub heardAt : List ℕ → Call → List ℕ
+heardAt m c = cond (isFrame c) (sampleBytes (outputFrom m c)) []
+
+-- it is made, and what is heard of it put at a place of the sound; a frame's output has its twelve values
+pub record Makes (m : List ℕ) (c : Call) (sound : List ℕ) (at : ℕ) (r : Made) (later heard : List ℕ) : Type 0 where
+  pub leaves : later ≡ after m c
+  pub hears : heard ≡ withPart sound at (heardAt m c)
+  pub counts : r .frames ≡ cond (isFrame c) 1 0
+  pub refuses : r .refused ≡ cond (isDone (answerTo m c)) 0 1
+  pub whole : isFrame c ≡ true → length (outputFrom m c) ≡ OUTPUT_VALUES
+
+-- ---- as many calls as the sound has room for, from a place of the score on
+
+abbrev pub nextCalls : List ℕ → List ℕ → ℕ → ℕ → List ℕ → List Call
+nextCalls memory commands k made sound = take (length sound / 4) (leftFrom memory commands k made)
+
+pub record Plays (m memory commands : List ℕ) (k made : ℕ) (sound : List ℕ) (r : Played) (later heard : List ℕ) : Type 0 where
+  pub leaves : later ≡ run m (nextCalls memory commands k made sound)
+  pub counts : r .frames ≡ framesIn (nextCalls memory commands k made sound)
+  pub refuses : r .refused ≡ refusals (answers m (nextCalls memory commands k made sound))
+  pub hears : take (4 * r .frames) heard ≡ heardFrom m (nextCalls memory commands k made sound)
+  pub stays : drop (4 * r .frames) heard ≡ drop (4 * r .frames) sound
+  pub goes : leftFrom memory commands (r .command) (r .made) ≡ drop (length sound / 4) (leftFrom memory commands k made)

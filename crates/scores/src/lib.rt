@@ -1,0 +1,205 @@
+// A score: sample memory, and commands that ask for calls on one machine; and what is heard of it.
+// A score's first 8,192 bytes are 4,096 words of sample memory, the high byte first. Then come commands of six bytes: a kind, a number of four bytes,
+// the high byte first, and one byte.
+//
+// kind 0: reset. 1: write the byte at the address that the number gives. 2: read there. 3: set the pot result to the number. 4: run a frame.
+// 5: ask which voices wait. 6: run as many frames as the number says.
+//
+// In order: a command; the memory; how many frames there are; whether a score is good; what is heard of a frame; a score played.
+ghost use mathlib.Core.Path.{_≡_};
+ghost use Prim.Native.Nat.{_+_, _*_, _≤_, _<_, _^_};
+ghost use lib.ListN.{length};
+ghost use lib.IntN.{_+ℤ_};
+ghost use Rattle.numbers.specs.Numbers.{word};
+ghost use mathlib.Core.Bool.{cond};
+ghost use Rattle.answer.specs.Answer.{isDone};
+ghost use Rattle.calls.specs.Asks.{callOf};
+ghost use Rattle.scores.specs.Score.{Filled, commandOf, commandAt, commandNo, silence, isFrameAsk, framesOf, scoreFrames};
+ghost use Rattle.scores.specs.Sound.{heardOf, sampleBytes};
+ghost use Rattle.scores.specs.Playing.{Makes, Plays};
+use answer::Answer;
+use calls::Ask;
+
+pub const MEMORY_WORDS: usize = 4096;
+
+pub const MEMORY_BYTES: usize = 8192;
+
+pub const COMMAND_BYTES: usize = 6;
+
+pub const MOST_BYTES: usize = 65536;
+
+// ---- a command: a call, and how many times it is made
+
+pub struct Command {
+    pub ask: Ask,
+    pub times: u32,
+}
+
+// The command whose six bytes begin at `at`.
+pub fn command_at(commands: &[u8], at: usize) -> Command
+    requires { ⌜ at + 6 ≤ length (now commands) ⌝ }
+    ensures { λ r. ⌜ r ≡ commandAt (now (commands .entry)) at ⌝ }
+{
+    let n = layout::big4_at(commands, at + 1);
+    command_of(commands[at], n, commands[at + 5])
+}
+
+// A command of another kind makes no call.
+fn command_of(kind: u8, n: u32, byte: u8) -> Command
+    ensures { λ r. ⌜ r ≡ commandOf kind n byte ⌝ }
+{
+    match kind {
+        0 => Command { ask: Ask::Reset, times: 1 },
+        1 => Command { ask: Ask::Write(n, byte), times: 1 },
+        2 => Command { ask: Ask::Read(n), times: 1 },
+        3 => Command { ask: Ask::SetPot(n), times: 1 },
+        4 => Command { ask: Ask::Frame, times: 1 },
+        5 => Command { ask: Ask::Waiting, times: 1 },
+        6 => Command { ask: Ask::Frame, times: n },
+        _ => Command { ask: Ask::Frame, times: 0 },
+    }
+}
+
+pub fn is_frame(ask: Ask) -> bool
+    ensures { λ r. ⌜ r ≡ isFrameAsk ask ⌝ }
+{
+    match ask {
+        Ask::Reset => false,
+        Ask::Write(_, _) => false,
+        Ask::Read(_) => false,
+        Ask::SetPot(_) => false,
+        Ask::Waiting => false,
+        Ask::Frame => true,
+    }
+}
+
+// ---- the memory
+
+// The sample memory, from the bytes at the score's start.
+pub fn fill(memory: &mut [u16], score: &[u8])
+    requires { ⌜ 2 * length (now memory) ≤ length (now score) ⌝ }
+    ensures { λ _. ⌜ Filled (length (now (memory .entry))) (now (score .entry)) (now (memory .exit)) ⌝ }
+{
+    for i in 0..memory.len() {
+        memory[i] = layout::big2_at(score, 2 * i);
+    }
+}
+
+// ---- how many frames there are
+
+pub fn frames_of(commands: &[u8]) -> u64
+    requires { ⌜ length (now commands) ≤ 65536 ⌝ }
+    ensures { λ r. ⌜ r ≡ scoreFrames (now (commands .entry)) ⌝ }
+{
+    let mut n = 0;
+    for k in 0..commands.len() / 6 {
+        n += command_frames(command_at(commands, 6 * k));
+    }
+    n
+}
+
+fn command_frames(c: Command) -> u64
+    ensures { λ r. ⌜ (r ≡ framesOf c) × (r < 2 ^ 32) ⌝ }
+{
+    let ask = c.ask;
+    if is_frame(ask) {
+        c.times as u64
+    } else {
+        0
+    }
+}
+
+// ---- what is heard of a frame
+
+// Of six values on one side: their sum without its four lowest bits, held to 16 bits.
+fn heard(a: i32, b: i32, c: i32, d: i32, e: i32, f: i32) -> u16
+    ensures { λ r. ⌜ r ≡ word 16 (heardOf (a +ℤ b +ℤ c +ℤ d +ℤ e +ℤ f)) ⌝ }
+{
+    let sum = a as i64 + b as i64 + c as i64 + d as i64 + e as i64 + f as i64;
+    numbers::word_of(16, numbers::hold(-32768, 32767, (sum >> 4) as i32)) as u16
+}
+
+// The four bytes of a frame's sound.
+fn sample_bytes(out: &[i32]) -> [u8; 4]
+    requires { ⌜ length (now out) ≡ 12 ⌝ }
+    ensures { λ r. ⌜ r ≡ sampleBytes (now (out .entry)) ⌝ }
+{
+    let l = layout::little_bytes2(heard(out[0], out[2], out[4], out[6], out[8], out[10]));
+    let r = layout::little_bytes2(heard(out[1], out[3], out[5], out[7], out[9], out[11]));
+    [l[0], l[1], r[0], r[1]]
+}
+
+// ---- a score played
+
+// What one call comes to: 1 where it was a frame, and 1 where it was refused.
+pub struct Made {
+    pub frames: usize,
+    pub refused: usize,
+}
+
+// The call, made once; what is heard of it is put at `at`.
+fn make(m: &mut [u32], memory: &[u16], ask: Ask, sound: &mut [u8], at: usize) -> Made
+    requires { ⌜ at + 4 ≤ length (now sound) ⌝ }
+    ensures { λ r. ⌜ Makes (now (m .entry)) (callOf ask (now (memory .entry)) silence) (now (sound .entry)) at r (now (m .exit)) (now (sound .exit)) ⌝ }
+{
+    let mut out = [0i32; 12];
+    let reply = calls::perform(m, ask, memory, &mut out);
+    let answer = reply.answer;
+    let refused = refusal(answer);
+    if is_frame(ask) {
+        let four = sample_bytes(&out);
+        layout::put4(sound, at, four[0], four[1], four[2], four[3]);
+        Made { frames: 1, refused: refused }
+    } else {
+        Made { frames: 0, refused: refused }
+    }
+}
+
+// 1 where a call is refused.
+fn refusal(a: Answer) -> usize
+    ensures { λ r. ⌜ r ≡ cond (isDone a) 0 1 ⌝ }
+{
+    if answer::number(a) == 0 {
+        0
+    } else {
+        1
+    }
+}
+
+// Where a score stands after some calls: its command, and how many of that one's calls are made; and what those calls came to.
+pub struct Played {
+    pub command: usize,
+    pub made: u32,
+    pub frames: usize,
+    pub refused: usize,
+}
+
+// Plays on from a command of which so many calls are made: as many calls as the sound has room for, if each were a frame.
+pub fn play(m: &mut [u32], memory: &[u16], commands: &[u8], command: usize, made: u32, sound: &mut [u8]) -> Played
+    requires { ⌜ made ≤ commandNo (now commands) command .times ⌝ }
+    ensures { λ r. ⌜ Plays (now (m .entry)) (now (memory .entry)) (now (commands .entry)) command made (now (sound .entry)) r (now (m .exit)) (now (sound .exit)) ⌝ }
+    ensures { λ r. ⌜ r .made ≤ commandNo (now (commands .entry)) (r .command) .times ⌝ }
+{
+    let room = sound.len() / 4;
+    let count = commands.len() / 6;
+    let mut k = command;
+    let mut own = made;
+    let mut calls = 0;
+    let mut frames = 0;
+    let mut refused = 0;
+    while (calls < room) & (k < count) {
+        let c = command_at(commands, 6 * k);
+        let ask = c.ask;
+        if own < c.times {
+            let one = make(m, memory, ask, sound, 4 * frames);
+            own += 1;
+            calls += 1;
+            frames += one.frames;
+            refused += one.refused;
+        } else {
+            k += 1;
+            own = 0;
+        }
+    }
+    Played { command: k, made: own, frames: frames, refused: refused }
+}
