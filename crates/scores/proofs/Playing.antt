@@ -135,6 +135,7 @@ pub record Going (room : ℕ) (all : List Call) (m₀ sound₀ : List ℕ) (cs :
   pub long : length sound ≡ length sound₀
   pub frames-few : frames ≤ calls
   pub refused-few : refused ≤ calls
+  pub sum : length all ≡ calls + length cs
 
 pub begins : (room : ℕ) (all : List Call) (m sound : List ℕ) → Going room all m sound all m sound 0 0 0
 begins room all m sound =
@@ -149,6 +150,7 @@ begins room all m sound =
       long = refl;
       frames-few = omega arith;
       refused-few = omega arith;
+      sum = sym (zero-add (length all));
     }
 
 -- one call more
@@ -211,6 +213,7 @@ module _ {room : ℕ} {all : List Call} {m₀ sound₀ : List ℕ} {c : Call} {c
         long = rw (p .hears) (with-length sound (4 * frames) (heardAt m c) room-for ∙ g .long);
         frames-few = omega (arith, at-most-one p .0, g .frames-few);
         refused-few = omega (arith, at-most-one p .1, g .refused-few);
+        sum = omega (arith, g .sum);
       }
 
 -- all calls that there is room for are made, or none is left

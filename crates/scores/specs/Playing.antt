@@ -1,7 +1,7 @@
 -- A score played, a number of calls at a time.
 -- In order: the calls that are left at a place of the score; frames and refusals of a run; what is heard of it; what one call comes to; what some do.
 -- Assumes nothing.
-use Prim.Native.Nat.{ℕ, suc, _+_, _*_, _/_, _-_}
+use Prim.Native.Nat.{ℕ, _+_, _*_, _/_, _-_, _≤_, _<_}
 use mathlib.Core.Path.{_≡_}
 use mathlib.Core.Bool.{Bool, true, false, cond}
 use mathlib.Core.List.{List, [], _∷_}
@@ -56,7 +56,7 @@ pub record Makes (m : List ℕ) (c : Call) (sound : List ℕ) (at : ℕ) (r : Ma
   pub refuses : r .refused ≡ cond (isDone (answerTo m c)) 0 1
   pub whole : isFrame c ≡ true → length (outputFrom m c) ≡ OUTPUT_VALUES
 
--- ---- as many calls as the sound has room for, from a place of the score on
+-- ---- As many calls as the sound has room for, from a place of the score on. Where a command is left after them, there were no fewer.
 
 abbrev pub nextCalls : List ℕ → List ℕ → ℕ → ℕ → List ℕ → List Call
 nextCalls memory commands k made sound = take (length sound / 4) (leftFrom memory commands k made)
@@ -68,3 +68,4 @@ pub record Plays (m memory commands : List ℕ) (k made : ℕ) (sound : List ℕ
   pub hears : take (4 * r .frames) heard ≡ heardFrom m (nextCalls memory commands k made sound)
   pub stays : drop (4 * r .frames) heard ≡ drop (4 * r .frames) sound
   pub goes : leftFrom memory commands (r .command) (r .made) ≡ drop (length sound / 4) (leftFrom memory commands k made)
+  pub full : r .command < commandCount commands → length sound / 4 ≤ length (leftFrom memory commands k made)

@@ -1,12 +1,12 @@
 -- A score: the words of sample memory at its start; which call six bytes after them ask for, and how often; the calls of all commands; how many
--- frames these are. In that order. Assumes nothing.
-use Prim.Native.Nat.{ℕ, zero, suc, _+_, _*_, _/_, _-_, _<_}
+-- frames these are; whether a score is good. In that order. Assumes nothing.
+use Prim.Native.Nat.{ℕ, zero, suc, _+_, _*_, _/_, _%_, _-_, _<_}
 use mathlib.Core.Path.{_≡_}
-use mathlib.Core.Bool.{Bool, true, false, cond}
+use mathlib.Core.Bool.{Bool, true, false, cond, not, _&&_}
 use mathlib.Core.List.{List, [], _∷_, _++_}
-use lib.Dec.{eqb}
+use lib.Dec.{eqb, ltb, leb}
 use lib.IntN.{ℤ, pos}
-use lib.ListN.{length, getD, replicate}
+use lib.ListN.{length, getD, drop, replicate}
 use Rattle.numbers.specs.Sum.{sum}
 use Rattle.layout.specs.Bytes.{big2At, big4At}
 use Rattle.machine.specs.Words.{OUTPUT_VALUES}
@@ -15,6 +15,8 @@ use Rattle.calls.specs.Asks.{callOf}
 use Rattle.calls.specs.declared.Ask.{Ask}
 use Rattle.calls.specs.declared.Ask.the-variants.{Reset, Write, Read, SetPot, Waiting, Frame}
 use Rattle.scores.specs.declared.Command.{Command}
+use Rattle.scores.specs.declared.Verdict.{Verdict}
+use Rattle.scores.specs.declared.Verdict.the-variants.{Good, TooLong, NoMemory, Cut, Unknown, TooManyFrames}
 
 -- the first n words of the memory are the score's bytes by twos, the high one first
 abbrev pub Filled : ℕ → List ℕ → List ℕ → Type 0
@@ -82,3 +84,29 @@ framesOf c = cond (isFrameAsk (c .ask)) (c .times) 0
 
 unfoldable pub scoreFrames : List ℕ → ℕ
 scoreFrames commands = sum (commandCount commands) (λ k. framesOf (commandNo commands k))
+
+-- ---- whether a score is good
+
+abbrev pub MOST_BYTES : ℕ
+MOST_BYTES = 65536
+
+abbrev pub MEMORY_BYTES : ℕ
+MEMORY_BYTES = 8192
+
+abbrev pub MOST_FRAMES : ℕ
+MOST_FRAMES = 1073741814
+
+-- the first n commands are of kinds 0 to 6
+unfoldable pub allKnown : List ℕ → ℕ → Bool
+allKnown commands zero = true
+allKnown commands (suc n) = allKnown commands n && leb (getD commands (6 * n) 0) 6
+
+-- the first of these that holds
+unfoldable pub verdictOf : List ℕ → Verdict
+verdictOf score =
+    let commands = drop MEMORY_BYTES score in
+    cond (ltb MOST_BYTES (length score)) TooLong
+    (cond (ltb (length score) MEMORY_BYTES) NoMemory
+    (cond (not (eqb ((length score - MEMORY_BYTES) % 6) 0)) Cut
+    (cond (not (allKnown commands (commandCount commands))) Unknown
+    (cond (ltb MOST_FRAMES (scoreFrames commands)) TooManyFrames Good))))

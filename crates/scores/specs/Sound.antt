@@ -1,11 +1,11 @@
 -- What is heard of a frame's twelve values, and of a run of frames: stereo, 16 bits.
--- In order: one side of a frame; what is heard of it; the bytes of a frame; the bytes of some frames. Assumes nothing.
-use Prim.Native.Nat.{ℕ, zero, suc, _+_, _*_}
+-- In order: one side of a frame; what is heard of it; the bytes of a frame; the bytes of some frames; the loudest sample of these. Assumes nothing.
+use Prim.Native.Nat.{ℕ, zero, suc, _+_, _*_, max}
 use mathlib.Core.List.{List, [], _++_}
-use lib.IntN.{ℤ, pos, _+ℤ_}
+use lib.IntN.{ℤ, pos, natAbs, _+ℤ_}
 use lib.ListN.{getD, take, drop}
-use Rattle.numbers.specs.Numbers.{floorDiv, minus, held, word}
-use Rattle.layout.specs.Bytes.{littleBytes}
+use Rattle.numbers.specs.Numbers.{floorDiv, minus, held, word, signed}
+use Rattle.layout.specs.Bytes.{littleBytes, little2At}
 use Rattle.machine.specs.Words.{OUTPUT_VALUES}
 
 -- the sum of the six channels on a side, which is 0 for the left and 1 for the right
@@ -26,3 +26,8 @@ sampleBytes values = littleBytes 2 (word 16 (heardOf (sideOf 0 values))) ++ litt
 unfoldable pub soundOf : ℕ → List ℤ → List ℕ
 soundOf zero values = []
 soundOf (suc n) values = sampleBytes (take OUTPUT_VALUES values) ++ soundOf n (drop OUTPUT_VALUES values)
+
+-- the loudest of the first n samples, or what was the loudest before
+unfoldable pub loudestOf : List ℕ → ℕ → ℕ → ℕ
+loudestOf sound zero before = before
+loudestOf sound (suc n) before = max (loudestOf sound n before) (natAbs (signed 16 (little2At sound (2 * n))))

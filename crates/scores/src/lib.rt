@@ -7,15 +7,15 @@
 //
 // In order: a command; the memory; how many frames there are; whether a score is good; what is heard of a frame; a score played.
 ghost use mathlib.Core.Path.{_≡_};
-ghost use Prim.Native.Nat.{_+_, _*_, _≤_, _<_, _^_};
+ghost use Prim.Native.Nat.{_+_, _*_, _/_, _≤_, _<_, _^_};
 ghost use lib.ListN.{length};
-ghost use lib.IntN.{_+ℤ_};
-ghost use Rattle.numbers.specs.Numbers.{word};
+ghost use lib.IntN.{_+ℤ_, natAbs};
+ghost use Rattle.numbers.specs.Numbers.{word, signed};
 ghost use mathlib.Core.Bool.{cond};
 ghost use Rattle.answer.specs.Answer.{isDone};
 ghost use Rattle.calls.specs.Asks.{callOf};
-ghost use Rattle.scores.specs.Score.{Filled, commandOf, commandAt, commandNo, silence, isFrameAsk, framesOf, scoreFrames};
-ghost use Rattle.scores.specs.Sound.{heardOf, sampleBytes};
+ghost use Rattle.scores.specs.Score.{Filled, commandOf, commandAt, commandNo, silence, isFrameAsk, framesOf, scoreFrames, commandCount, allKnown, verdictOf};
+ghost use Rattle.scores.specs.Sound.{heardOf, sampleBytes, loudestOf};
 ghost use Rattle.scores.specs.Playing.{Makes, Plays};
 use answer::Answer;
 use calls::Ask;
@@ -27,6 +27,9 @@ pub const MEMORY_BYTES: usize = 8192;
 pub const COMMAND_BYTES: usize = 6;
 
 pub const MOST_BYTES: usize = 65536;
+
+// Four bytes each are at most what a WAVE file holds.
+pub const MOST_FRAMES: u64 = 1073741814;
 
 // ---- a command: a call, and how many times it is made
 
@@ -109,6 +112,54 @@ fn command_frames(c: Command) -> u64
     }
 }
 
+// ---- whether a score is good
+
+pub enum Verdict {
+    Good,
+    // It has more bytes than a score may have.
+    TooLong,
+    // It ends before its sample memory does.
+    NoMemory,
+    // Its last command has fewer than six bytes.
+    Cut,
+    // A command's kind is none of 0 to 6.
+    Unknown,
+    // It has more frames than a WAVE file holds.
+    TooManyFrames,
+}
+
+pub fn judge(score: &[u8]) -> Verdict
+    ensures { λ r. ⌜ r ≡ verdictOf (now (score .entry)) ⌝ }
+{
+    let n = score.len();
+    if MOST_BYTES < n {
+        return Verdict::TooLong;
+    }
+    if n < MEMORY_BYTES {
+        return Verdict::NoMemory;
+    }
+    if (n - MEMORY_BYTES) % COMMAND_BYTES != 0 {
+        return Verdict::Cut;
+    }
+    if !all_known(&score[8192..]) {
+        return Verdict::Unknown;
+    }
+    if MOST_FRAMES < frames_of(&score[8192..]) {
+        return Verdict::TooManyFrames;
+    }
+    Verdict::Good
+}
+
+fn all_known(commands: &[u8]) -> bool
+    ensures { λ r. ⌜ r ≡ allKnown (now (commands .entry)) (commandCount (now (commands .entry))) ⌝ }
+{
+    let mut known = true;
+    for k in 0..commands.len() / 6 {
+        known = known & (commands[6 * k] <= 6);
+    }
+    known
+}
+
 // ---- what is heard of a frame
 
 // Of six values on one side: their sum without its four lowest bits, held to 16 bits.
@@ -127,6 +178,31 @@ fn sample_bytes(out: &[i32]) -> [u8; 4]
     let l = layout::little_bytes2(heard(out[0], out[2], out[4], out[6], out[8], out[10]));
     let r = layout::little_bytes2(heard(out[1], out[3], out[5], out[7], out[9], out[11]));
     [l[0], l[1], r[0], r[1]]
+}
+
+// The loudest sample of a sound, or what was the loudest before.
+pub fn loudest(sound: &[u8], before: u32) -> u32
+    ensures { λ r. ⌜ r ≡ loudestOf (now (sound .entry)) (length (now (sound .entry)) / 2) before ⌝ }
+{
+    let mut most = before;
+    for i in 0..sound.len() / 2 {
+        let z = magnitude(layout::little2_at(sound, 2 * i));
+        if most < z {
+            most = z;
+        }
+    }
+    most
+}
+
+// How far a sample is from 0.
+fn magnitude(w: u16) -> u32
+    ensures { λ r. ⌜ r ≡ natAbs (signed 16 w) ⌝ }
+{
+    if w < 32768 {
+        w as u32
+    } else {
+        65536 - w as u32
+    }
 }
 
 // ---- a score played

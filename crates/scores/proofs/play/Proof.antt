@@ -41,6 +41,11 @@ one-is-over : (a b : Bool) → (a && b) ≡ false → (a ≡ true → b ≡ fals
 one-is-over true b e t = e
 one-is-over false b e t = absurd (false≢true t)
 
+other-is-over : (a b : Bool) → (a && b) ≡ false → (b ≡ true → a ≡ false)
+other-is-over true true e t = e
+other-is-over true false e t = absurd (false≢true t)
+other-is-over false b e t = refl
+
 -- the loop's test
 on : (c : tie.In-loop Inv-loop μ-loop)
     → (c .before .loop .calls < length (c .before .before .before .before .before .before .args .sound .now) / 4) × (c .before .loop .k < commandCount (c .before .before .before .before .before .before .args .commands .now))
@@ -94,6 +99,7 @@ returns c =
         hears = hears-end g (o .0) (o .1);
         stays = g .stays;
         goes = goes-end g (o .0) (o .1);
+        full = λ h. omega (arith, g .sum, ltb-false (l .calls) room (other-is-over (ltb (l .calls) room) (ltb (l .k) (length commands / 6)) (c .loop-test .left) (lt-ltb (l .k) (length commands / 6) h)));
       },
       l .inv .1,
     )
