@@ -90,7 +90,7 @@ not-heard m Waiting h = refl
 not-heard m (Frame memory out) h = absurd (true≢false h)
 
 -- four bytes of a frame, nothing of another call, and then what is heard of the rest
-heard-cons : (m : List ℕ) (c : Call) (cs : List Call) → (isFrame c ≡ true → length (outputFrom m c) ≡ OUTPUT_VALUES)
+pub heard-cons : (m : List ℕ) (c : Call) (cs : List Call) → (isFrame c ≡ true → length (outputFrom m c) ≡ OUTPUT_VALUES)
     → heardFrom m (c ∷ cs) ≡ heardAt m c ++ heardFrom (after m c) cs
 unfolding heardFrom heardAt framesIn outputs soundOf
 heard-cons m c cs whole = by (isFrame c) refl

@@ -9,6 +9,7 @@ use borrow.Author.Needs.{needs}
 use borrow.Author.Tests.{ltb-true, ltb-false, lt-ltb}
 use lib.Dec.{ltb}
 use lib.ListN.{length}
+use Rattle.machine.proofs.Valid.{both}
 use Rattle.calls.specs.Calls.{Call}
 use Rattle.scores.specs.Score.{commandNo, commandCount}
 use Rattle.scores.specs.Playing.{leftFrom}
@@ -31,11 +32,6 @@ loop-holds : tie.Need-loop-holds Inv-loop μ-loop
 loop-holds c =
     let s = c .before .before .before .before in
     (begins _ _ _ _, s .pre, omega arith, refl, refl, refl, refl)
-
-both : (a b : Bool) → (a && b) ≡ true → (a ≡ true) × (b ≡ true)
-both true true e = (refl, refl)
-both true false e = absurd (false≢true e)
-both false b e = absurd (false≢true e)
 
 one-is-over : (a b : Bool) → (a && b) ≡ false → (a ≡ true → b ≡ false)
 one-is-over true b e t = e

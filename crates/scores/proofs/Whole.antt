@@ -1,0 +1,167 @@
+-- A whole score: what is heard of it is heard of its parts, one after the other, wherever it is cut; how many bytes that is; and that its frames are
+-- counted right.
+-- In order: a frame that is lent twelve zeros leaves twelve values, refused or not; so do all frames of a score; two runs (`heard-both`); a score in two
+-- parts (`in-parts`); its bytes (`heard-bytes`); its frames (`frames-counted`). Assumes nothing.
+use mathlib.Core.Path.{_≡_, refl, sym, ap, _∙_}
+use mathlib.Core.Bool.{Bool, true, false, cond, false≢true}
+use mathlib.Core.List.{List, [], _∷_, _++_, append-assoc}
+use Prim.Native.Nat.{ℕ, zero, suc, _+_, _-_, _*_, _/_, _≤_, _<_}
+use native.Mathlib.Nat.{add-zero, zero-add}
+use native.Mathlib.Omega.{arith}
+use lib.IntN.{ℤ}
+use lib.ListN.{length, take, drop, replicate, length-append, take-append-drop}
+use Rattle.numbers.specs.Sum.{sum}
+use Rattle.numbers.proofs.Sum.{sum-ext}
+use Rattle.numbers.proofs.Tests.{split}
+use Rattle.layout.specs.Bytes.{littleBytes}
+use Rattle.answer.specs.Answer.{isDone}
+use Rattle.answer.proofs.Refusals.{is-done}
+use Rattle.machine.specs.Words.{OUTPUT_VALUES}
+use Rattle.frame.specs.Frame.{played, frameAnswer, frameOutput}
+use Rattle.frame.proofs.Answered.{done-frame}
+use Rattle.frame.proofs.Keeps.{sound-played}
+use Rattle.frame.proofs.Leaves.{heard-length}
+use Rattle.calls.specs.Calls.{Call, Frame, answerTo, after, outputFrom, run, outputs}
+use Rattle.calls.specs.Asks.{callOf}
+use Rattle.calls.specs.declared.Ask.{Ask}
+use Rattle.calls.specs.declared.Ask.the-variants as Ask
+use Rattle.calls.proofs.Runs.{frame-sounds}
+use Rattle.scores.specs.Score.{silence, commandNo, commandCount, callsOf, callsFrom, scoreCalls, isFrameAsk, framesOf, scoreFrames}
+use Rattle.scores.specs.Sound.{sampleBytes, soundOf}
+use Rattle.scores.specs.Playing.{leftFrom, isFrame, framesIn, heardFrom, heardAt}
+use Rattle.scores.specs.declared.Command.{Command}
+use Rattle.scores.proofs.Making.{asks-frame}
+use Rattle.scores.proofs.Playing.{heard-cons}
+
+-- ---- twelve values
+
+frame-long : (m memory : List ℕ) → length (outputFrom m (Frame memory silence)) ≡ OUTPUT_VALUES
+unfolding answerTo outputFrom frameOutput
+frame-long m memory =
+    split _ (isDone (frameAnswer m memory silence))
+    (λ t.
+      let d = is-done (frameAnswer m memory silence) t in
+      rw t (heard-length (played memory m) (sound-played memory (done-frame m memory silence d .machine) .size)))
+    (λ f. rw f refl)
+
+abbrev Long : Call → Type 0
+Long c = (m : List ℕ) → isFrame c ≡ true → length (outputFrom m c) ≡ OUTPUT_VALUES
+
+call-long : (ask : Ask) (memory : List ℕ) → Long (callOf ask memory silence)
+unfolding isFrame
+call-long Ask.Reset memory m h = absurd (false≢true h)
+call-long (Ask.Write a b) memory m h = absurd (false≢true h)
+call-long (Ask.Read a) memory m h = absurd (false≢true h)
+call-long (Ask.SetPot p) memory m h = absurd (false≢true h)
+call-long Ask.Waiting memory m h = absurd (false≢true h)
+call-long Ask.Frame memory m h = frame-long m memory
+
+-- each call of a list
+abbrev AllLong : List Call → Type 0
+AllLong [] = Unit {0}
+AllLong (c ∷ cs) = Long c × AllLong cs
+
+both-long : (t u : List Call) → AllLong t → AllLong u → AllLong (t ++ u)
+both-long [] u a b = b
+both-long (c ∷ t) u a b = (a .0, both-long t u (a .1) b)
+
+repeated-long : (n : ℕ) (c : Call) → Long c → AllLong (replicate n c)
+repeated-long zero c l = tt
+repeated-long (suc n) c l = (l, repeated-long n c l)
+
+take-long : (n : ℕ) (cs : List Call) → AllLong cs → AllLong (take n cs)
+take-long zero cs a = tt
+take-long (suc n) [] a = tt
+take-long (suc n) (c ∷ cs) a = (a .0, take-long n cs (a .1))
+
+drop-long : (n : ℕ) (cs : List Call) → AllLong cs → AllLong (drop n cs)
+drop-long zero cs a = a
+drop-long (suc n) [] a = tt
+drop-long (suc n) (c ∷ cs) a = drop-long n cs (a .1)
+
+calls-long : (memory commands : List ℕ) (n k : ℕ) → AllLong (callsFrom memory commands n k)
+unfolding callsFrom callsOf
+calls-long memory commands zero k = tt
+calls-long memory commands (suc n) k =
+    both-long (callsOf memory (commandNo commands k)) (callsFrom memory commands n (suc k))
+    (repeated-long (commandNo commands k .times) (callOf (commandNo commands k .ask) memory silence) (call-long (commandNo commands k .ask) memory))
+    (calls-long memory commands n (suc k))
+
+-- ---- what is heard
+
+none-heard : (m : List ℕ) → heardFrom m [] ≡ []
+unfolding heardFrom framesIn outputs soundOf
+none-heard m = refl
+
+heard-both : (m : List ℕ) (t u : List Call) → AllLong t → heardFrom m (t ++ u) ≡ heardFrom m t ++ heardFrom (run m t) u
+unfolding run
+heard-both m [] u a = ap (λ (l : List ℕ). l ++ heardFrom m u) (sym (none-heard m))
+heard-both m (c ∷ t) u a =
+    heard-cons m c (t ++ u) (a .0 m)
+    ∙ ap (λ (l : List ℕ). heardAt m c ++ l) (heard-both (after m c) t u (a .1))
+    ∙ sym (append-assoc (heardAt m c) (heardFrom (after m c) t) (heardFrom (run (after m c) t) u))
+    ∙ ap (λ (l : List ℕ). l ++ heardFrom (run (after m c) t) u) (sym (heard-cons m c t (a .0 m)))
+
+-- wherever it is cut
+pub in-parts : (m memory commands : List ℕ) (k made n : ℕ)
+    → (let cs = leftFrom memory commands k made in heardFrom m cs ≡ heardFrom m (take n cs) ++ heardFrom (run m (take n cs)) (drop n cs))
+in-parts m memory commands k made n =
+    let cs = leftFrom memory commands k made in
+    let a = drop-long made (callsFrom memory commands (commandCount commands - k) k) (calls-long memory commands (commandCount commands - k) k) in
+    ap (heardFrom m) (sym (take-append-drop n cs)) ∙ heard-both m (take n cs) (drop n cs) (take-long n cs a)
+
+-- four bytes a frame
+sound-bytes : (n : ℕ) (values : List ℤ) → length (soundOf n values) ≡ 4 * n
+unfolding soundOf sampleBytes littleBytes
+sound-bytes zero values = refl
+sound-bytes (suc n) values =
+    let e : 4 * suc n ≡ suc (suc (suc (suc (4 * n)))) = omega arith in
+    rw e (ap (λ (k : ℕ). suc (suc (suc (suc k)))) (sound-bytes n (drop OUTPUT_VALUES values)))
+
+pub heard-bytes : (m : List ℕ) (cs : List Call) → length (heardFrom m cs) ≡ 4 * framesIn cs
+unfolding heardFrom
+heard-bytes m cs = sound-bytes (framesIn cs) (outputs m cs)
+
+-- ---- how many frames there are
+
+frames-both : (t u : List Call) → framesIn (t ++ u) ≡ framesIn t + framesIn u
+unfolding framesIn
+frames-both [] u = sym (zero-add (framesIn u))
+frames-both (c ∷ t) u = omega (arith, frames-both t u)
+
+frames-repeated : (c : Call) (b : Bool) → isFrame c ≡ b → (n : ℕ) → framesIn (replicate n c) ≡ cond b n 0
+unfolding framesIn
+frames-repeated c true e zero = refl
+frames-repeated c false e zero = refl
+frames-repeated c true e (suc n) = rw e (omega (arith, frames-repeated c true e n))
+frames-repeated c false e (suc n) = rw e (omega (arith, frames-repeated c false e n))
+
+frames-of-command : (memory : List ℕ) (c : Command) → framesIn (callsOf memory c) ≡ framesOf c
+unfolding callsOf framesOf
+frames-of-command memory c = frames-repeated (callOf (c .ask) memory silence) (isFrameAsk (c .ask)) (asks-frame (c .ask) memory silence) (c .times)
+
+-- a sum from its first number on
+sum-first : (n : ℕ) (f : ℕ → ℕ) → sum (suc n) f ≡ f 0 + sum n (λ i. f (suc i))
+unfolding sum
+sum-first zero f = omega arith
+sum-first (suc n) f = omega (arith, sum-first n f)
+
+-- of n commands, from command k on
+frames-from : (memory commands : List ℕ) (n k : ℕ) → framesIn (callsFrom memory commands n k) ≡ sum n (λ i. framesOf (commandNo commands (k + i)))
+unfolding callsFrom framesIn sum
+frames-from memory commands zero k = refl
+frames-from memory commands (suc n) k =
+    let f : ℕ → ℕ = λ j. framesOf (commandNo commands j) in
+    let here : framesIn (callsFrom memory commands (suc n) k) ≡ framesIn (callsOf memory (commandNo commands k)) + framesIn (callsFrom memory commands n (suc k)) =
+      frames-both (callsOf memory (commandNo commands k)) (callsFrom memory commands n (suc k)) in
+    let first : f (k + 0) ≡ f k = ap f (add-zero k) in
+    let others : sum n (λ i. f (suc k + i)) ≡ sum n (λ i. f (k + suc i)) =
+      sum-ext n (λ i. f (suc k + i)) (λ i. f (k + suc i)) (λ i h. ap f (omega arith)) in
+    omega (arith, here, frames-of-command memory (commandNo commands k), frames-from memory commands n (suc k), first, others, sum-first n (λ i. f (k + i)))
+
+pub frames-counted : (memory commands : List ℕ) → scoreFrames commands ≡ framesIn (scoreCalls memory commands)
+unfolding scoreFrames
+frames-counted memory commands =
+    sum-ext (commandCount commands) (λ k. framesOf (commandNo commands k)) (λ i. framesOf (commandNo commands (0 + i)))
+    (λ i h. ap (λ (j : ℕ). framesOf (commandNo commands j)) (sym (zero-add i)))
+    ∙ sym (frames-from memory commands (commandCount commands) 0)
