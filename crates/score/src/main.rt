@@ -1,72 +1,50 @@
-// Plays a score on one machine and prints what each call answers.
-// Standard input holds 4,096 words of sample memory, high byte first, and then commands of six bytes: a kind, a number of four bytes, high
-// byte first, and one byte.
+// Plays a score on one machine and prints what each call answers. What a score is, and which calls it asks for, is the crate `scores`.
 //
-// kind 0: reset. 1: write the byte at the address that the number gives. 2: read there. 3: set the pot result to the number. 4: run a frame.
-// 5: ask which voices wait.
-//
-// Each command gives one line: the answer's number, for a read also the byte, for kind 5 also the mask of the waiting voices, for a frame also how
-// many words were missing and the twelve values. A command of any other kind gives the line "no call". A last command that is cut short is left
-// out, and so is all that stands after 65,536 bytes; a score whose sample memory is cut short gives no line.
+// Each call gives one line: the answer's number, for a read also the byte, for the question which voices wait also their mask, for a frame also how
+// many words were missing and the twelve values. A command that makes no call gives the line "no call". A last command that is cut short is left out,
+// and so is all that stands after 65,536 bytes; a score whose sample memory is cut short gives no line.
 ghost use mathlib.Core.Path.{_≡_};
-ghost use Prim.Native.Nat.{_+_, _*_, _≤_};
 ghost use lib.IntN.{natAbs};
-ghost use lib.ListN.{length};
-ghost use Rattle.score.specs.Score.{Filled, commandOf, commandAt};
 use calls::Ask;
 use calls::Reply;
 use libc::STDIN_FILENO;
 use libc::STDOUT_FILENO;
-
-enum Command {
-    Call(Ask),
-    Unknown,
-}
+use scores::Command;
 
 // The record is not valid at first, so that all that is asked before a reset is refused.
 fn main() {
     let mut input = io::large_buffer();
     let n = io::read_full(STDIN_FILENO, &mut input);
-    if n < 8192 {
+    if n < scores::MEMORY_BYTES {
         return;
     }
     let mut memory = [0u16; 4096];
-    fill(&mut memory, &input[..n]);
+    scores::fill(&mut memory, &input[..n]);
     let mut m = [4294967295u32; machine::RECORD_WORDS];
     let mut out = [0i32; machine::OUTPUT_VALUES];
     play(&mut m, &memory, &mut out, &input[8192..n]);
 }
 
-// The sample memory, from the bytes at the score's start.
-fn fill(memory: &mut [u16], score: &[u8])
-    requires { ⌜ 2 * length (now memory) ≤ length (now score) ⌝ }
-    ensures { λ _. ⌜ Filled (length (now (memory .entry))) (now (score .entry)) (now (memory .exit)) ⌝ }
-{
-    for i in 0..memory.len() {
-        memory[i] = layout::big2_at(score, 2 * i);
-    }
-}
-
 // The commands in turn.
 fn play(m: &mut [u32], memory: &[u16], out: &mut [i32], commands: &[u8]) {
     for k in 0..commands.len() / 6 {
-        obey(m, memory, out, command_at(commands, 6 * k));
+        obey(m, memory, out, scores::command_at(commands, 6 * k));
     }
 }
 
+// A command's calls.
 fn obey(m: &mut [u32], memory: &[u16], out: &mut [i32], c: Command) {
-    match c {
-        Command::Call(ask) => {
-            let reply = calls::perform(m, ask, memory, out);
-            say(ask, reply, out);
-        }
-        Command::Unknown => {
-            io::write_all(STDOUT_FILENO, b"no call\n");
-        }
+    let ask = c.ask;
+    for _ in 0..c.times {
+        let reply = calls::perform(m, ask, memory, out);
+        say(ask, reply, out);
+    }
+    if c.times == 0 {
+        io::write_all(STDOUT_FILENO, b"no call\n");
     }
 }
 
-// The line of a call that was performed.
+// The line of a call that was made.
 fn say(ask: Ask, reply: Reply, out: &[i32]) {
     let answer = reply.answer;
     io::print_decimal(STDOUT_FILENO, answer::number(answer) as u64);
@@ -112,28 +90,5 @@ fn magnitude(z: i32) -> u64
         (0 - wide) as u64
     } else {
         wide as u64
-    }
-}
-
-// The command whose six bytes begin at `at`.
-fn command_at(commands: &[u8], at: usize) -> Command
-    requires { ⌜ at + 6 ≤ length (now commands) ⌝ }
-    ensures { λ r. ⌜ r ≡ commandAt (now (commands .entry)) at ⌝ }
-{
-    let n = layout::big4_at(commands, at + 1);
-    command_of(commands[at], n, commands[at + 5])
-}
-
-fn command_of(kind: u8, n: u32, byte: u8) -> Command
-    ensures { λ r. ⌜ r ≡ commandOf kind n byte ⌝ }
-{
-    match kind {
-        0 => Command::Call(Ask::Reset),
-        1 => Command::Call(Ask::Write(n, byte)),
-        2 => Command::Call(Ask::Read(n)),
-        3 => Command::Call(Ask::SetPot(n)),
-        4 => Command::Call(Ask::Frame),
-        5 => Command::Call(Ask::Waiting),
-        _ => Command::Unknown,
     }
 }

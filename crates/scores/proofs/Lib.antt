@@ -1,3 +1,4 @@
 pub mod Making
 pub mod Playing
+pub mod Judged
 pub mod Whole

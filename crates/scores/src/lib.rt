@@ -255,6 +255,7 @@ pub fn play(m: &mut [u32], memory: &[u16], commands: &[u8], command: usize, made
     requires { ⌜ made ≤ commandNo (now commands) command .times ⌝ }
     ensures { λ r. ⌜ Plays (now (m .entry)) (now (memory .entry)) (now (commands .entry)) command made (now (sound .entry)) r (now (m .exit)) (now (sound .exit)) ⌝ }
     ensures { λ r. ⌜ r .made ≤ commandNo (now (commands .entry)) (r .command) .times ⌝ }
+    ensures { λ r. ⌜ 4 * r .frames ≤ length (now (sound .entry)) ⌝ }
 {
     let room = sound.len() / 4;
     let count = commands.len() / 6;

@@ -6,10 +6,10 @@ use Prim.Native.Nat.{ℕ, _-_, _%_, _≤_, _<_}
 use native.Mathlib.Omega.{arith}
 use borrow.Author.Needs.{needs}
 use borrow.Author.Tests.{lt-ltb, le-ltb, ne-eqb, eq-eqb}
-use lib.ListN.{length, take, drop, length-drop}
-use lib.Seq.{take-all}
+use lib.ListN.{length, take, drop}
 use Rattle.scores.specs.Score.{verdictOf, allKnown, commandCount, scoreFrames}
 use Rattle.scores.specs.declared.Verdict.the-variants.{Good, Unknown, TooManyFrames}
+use Rattle.scores.proofs.Judged.{part-is}
 use Rattle.scores.proofs.judge.Statement.{statement}
 use Rattle.scores.proofs.judge.Tie as tie
 
@@ -28,10 +28,6 @@ unfolding verdictOf
 returns-3 c =
     let score = c .before .before .before .before .args .score .now in
     rw (le-ltb 65536 (length score) (c .before .before .if1 .left), le-ltb (length score) 8192 (c .before .if2 .left), ne-eqb _ _ (c .if3 .taken))
-
--- the commands as the code lends them
-part-is : (score : List ℕ) → take (length score - 8192) (drop 8192 score) ≡ drop 8192 score
-part-is score = take-all (length score - 8192) (drop 8192 score) (rw length-drop (omega arith))
 
 module _ (score : List ℕ) (short : length score ≤ 65536) (long : 8192 ≤ length score) (whole : (length score - 8192) % 6 ≡ 0) where
   known-is : (b : Bool) → b ≡ allKnown (take (length score - 8192) (drop 8192 score)) (commandCount (take (length score - 8192) (drop 8192 score)))

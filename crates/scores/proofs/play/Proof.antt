@@ -87,7 +87,8 @@ returns c =
     let none : l .calls < room → left ≡ [] =
       λ h. left-none (s .args .memory .now) commands (l .k) (l .own) (ltb-false _ _ (one-is-over (ltb (l .calls) room) (ltb (l .k) (length commands / 6)) (c .loop-test .left) (lt-ltb (l .calls) room h))) in
     let o = over room (l .calls) left none in
-    let g = l .inv .0 in (
+    let g = l .inv .0 in
+    (
       record {
         leaves = leaves-end g (o .0) (o .1);
         counts = counts-end g (o .0) (o .1);
@@ -97,7 +98,7 @@ returns c =
         goes = goes-end g (o .0) (o .1);
         full = λ h. omega (arith, g .sum, ltb-false (l .calls) room (other-is-over (ltb (l .calls) room) (ltb (l .k) (length commands / 6)) (c .loop-test .left) (lt-ltb (l .k) (length commands / 6) h)));
       },
-      l .inv .1,
+      (l .inv .1, omega (arith, g .frames-few, l .inv .2)),
     )
 
 pub play-spec : {M : Type 1} → statement M
