@@ -1,11 +1,13 @@
 /*
- * The score that the program crates/score plays, and what it has to print.
+ * The scores that the programs crates/score and crates/play play, and what the
+ * first of them has to print. A score is 4,096 words of sample memory and then
+ * commands of six bytes, which are a kind, a number of four bytes and one byte.
  *
- *   score make          writes the score: 4,096 words of sample memory and
- *                       then commands of six bytes, which are a kind, a
- *                       number of four bytes and one byte
+ *   score make          writes the score of crates/score
+ *   score short         writes that of crates/play, which has few frames; what
+ *                       is heard of it, player.c says
  *   score play < SCORE  plays a score on the reference model and prints one
- *                       line for each command
+ *                       line for each call
  *
  * The score sets its voices up as a host does, by bytes: the page, and then
  * the four bytes of each register.
@@ -17,7 +19,17 @@
 #include "reference.h"
 
 /* From NO_CALL to LAST_KIND, a kind is that of no call. */
-enum kind { RESET, WRITE, READ, POT, FRAME, WAITING, NO_CALL, LAST_KIND = 255 };
+enum kind {
+    RESET,
+    WRITE,
+    READ,
+    POT,
+    FRAME,
+    WAITING,
+    FRAMES,
+    NO_CALL,
+    LAST_KIND = 255
+};
 
 #define COMMAND_BYTES 6u
 #define MEMORY_WORDS  4096u
@@ -289,6 +301,7 @@ static void play_refused(void)
     command(READ, 4 * IRQV, 0);
     command(POT, 300, 0);
     command(FRAME, 0, 0);
+    command(FRAMES, 2, 0);
     who_waits();
     command(RESET, 0, 0);
     who_waits();
@@ -299,6 +312,8 @@ static void play_refused(void)
     command(POT, 1024, 0);
     command(NO_CALL, 0, 0);
     command(LAST_KIND, 0xFFFFFFFFu, 255);
+    command(FRAMES, 0, 0);
+    command(FRAMES, 3, 255);
 }
 
 /* Every register of each kind of page takes a value of its own and then ones,
@@ -541,13 +556,18 @@ static void play_waiting(void)
     who_waits();
 }
 
-static void make(void)
+static void put_memory(void)
 {
     uint32_t place;
 
     for (place = 0; place < MEMORY_WORDS; place++) {
         put_number(sample_word(place), 2);
     }
+}
+
+static void make(void)
+{
+    put_memory();
     play_refused();
     play_registers();
     play_latches();
@@ -560,6 +580,50 @@ static void make(void)
     play_end();
     play_waiting();
     put_number(0, 3); /* a command cut short, which gives no line */
+}
+
+/* ==== the short score ===================================================== */
+
+/* The same words on three channels, to be louder than 16 bits. */
+static void set_on_channels(uint32_t voice, const uint32_t *words)
+{
+    uint32_t channel;
+    uint32_t moved[SET_WORDS];
+
+    memcpy(moved, words, sizeof moved);
+    for (channel = 0; channel < 3; channel++) {
+        moved[VOICE_CR] = ALL_LOW | CR_LPE | TO_CHANNEL(channel);
+        set_voice(voice + channel, moved);
+    }
+}
+
+/* Frames that are refused, a chord on all channels, the highest and the lowest
+   that there is, one by one and many at once; and calls after the last. */
+static void make_short(void)
+{
+    uint32_t voice;
+
+    put_memory();
+    command(FRAME, 0, 0);
+    command(FRAMES, 2, 0);
+    command(RESET, 0, 0);
+    for (voice = 0; voice < 12; voice++) {
+        set_voice(voice, voices[voice]);
+    }
+    command(FRAMES, 40, 0);
+    command(FRAMES, 0, 0);
+    set_on_channels(16, highest);
+    command(FRAMES, 6, 0);
+    command(FRAME, 0, 0);
+    turn_to(0);
+    put_register(ACTV, 3);
+    command(FRAMES, 2, 0);
+    put_register(ACTV, 31);
+    set_on_channels(16, lowest);
+    command(FRAMES, 7, 0);
+    get_register(IRQV);
+    command(POT, 1024, 0);
+    who_waits();
 }
 
 /* ==== playing ============================================================= */
@@ -616,6 +680,17 @@ static void print_answer(uint32_t answer)
     printf("%" PRIu32 "\n", answer);
 }
 
+/* As many lines as frames, or that there was none. */
+static void print_frames(uint32_t count)
+{
+    if (count == 0) {
+        printf("no call\n");
+    }
+    for (; count > 0; count--) {
+        print_frame();
+    }
+}
+
 static void play_command(const unsigned char *bytes)
 {
     uint32_t number = number_of(bytes + 1, 4);
@@ -638,6 +713,9 @@ static void play_command(const unsigned char *bytes)
         break;
     case WAITING:
         print_waiting();
+        break;
+    case FRAMES:
+        print_frames(number);
         break;
     default:
         printf("no call\n");
@@ -669,10 +747,14 @@ int main(int count, char **words)
         make();
         return 0;
     }
+    if (count == 2 && strcmp(words[1], "short") == 0) {
+        make_short();
+        return 0;
+    }
     if (count == 2 && strcmp(words[1], "play") == 0) {
         play();
         return 0;
     }
-    fprintf(stderr, "usage: score make, or score play < SCORE\n");
+    fprintf(stderr, "usage: score make, score short, or score play < SCORE\n");
     return 2;
 }
