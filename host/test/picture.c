@@ -21,7 +21,8 @@
 #define LOOP    50.9375 /* samples */
 #define TUNED   (RATE * (FC / 2048.0) / LOOP)
 
-/* The longer a window is, the less a sample's rounding moves its pitch. */
+/* A crossing is known to a part of a frame. The more waves there are between
+   the first and the last, the less that part moves the pitch. */
 #define WINDOWS_A_SECOND 10
 #define WINDOWS          (SECONDS * WINDOWS_A_SECOND)
 #define WINDOW           (FRAMES / WINDOWS)
@@ -39,6 +40,8 @@
 #define LOWEST       (-4) /* so that the line at 0 stands clear of the edge */
 #define HIGHEST      40
 #define CENTS_APART  10
+
+#define TITLE "A held note on a loop of about fifty samples"
 
 struct line {
     const char *name;
@@ -135,6 +138,7 @@ static void measure(struct line *line, const char *name)
     }
 }
 
+/* As it is shown, with one decimal: no minus before a nought. */
 static double mean(const struct line *line)
 {
     double sum = 0.0;
@@ -142,7 +146,7 @@ static double mean(const struct line *line)
     for (size_t i = 0; i < WINDOWS; i++) {
         sum += line->cents[i];
     }
-    return sum / WINDOWS;
+    return fabs(sum / WINDOWS) < 0.05 ? 0.0 : sum / WINDOWS;
 }
 
 /* ==== the picture ========================================================= */
@@ -160,9 +164,8 @@ static void draw_page(void)
            "font-family=\"system-ui, -apple-system, 'Segoe UI', Roboto, "
            "Helvetica, Arial, sans-serif\" font-size=\"12\" "
            "fill=\"#57606a\">\n", WIDTH, HEIGHT, WIDTH, HEIGHT);
-    printf("<title>A held note on a loop of about fifty samples: %+.1f cents "
-           "with END whole, %+.1f cents with END cut to whole samples"
-           "</title>\n", mean(&full), mean(&cut));
+    printf("<title>" TITLE ": %s %+.1f cents, %s %+.1f cents</title>\n",
+           full.name, mean(&full), cut.name, mean(&cut));
     printf("<rect x=\"0.5\" y=\"0.5\" width=\"%d\" height=\"%d\" rx=\"8\" "
            "fill=\"#ffffff\" stroke=\"#d0d7de\"/>\n", WIDTH - 1, HEIGHT - 1);
 }
@@ -170,11 +173,10 @@ static void draw_page(void)
 static void draw_titles(void)
 {
     printf("<text x=\"%d\" y=\"30\" font-size=\"16\" font-weight=\"600\" "
-           "fill=\"#1f2328\">A held note on a loop of about fifty samples"
-           "</text>\n", LEFT);
-    printf("<text x=\"%d\" y=\"50\">Its pitch against the note as tuned, "
-           "%.2f Hz, measured in every 1/%d second</text>\n", LEFT, TUNED,
-           WINDOWS_A_SECOND);
+           "fill=\"#1f2328\">" TITLE "</text>\n", LEFT);
+    printf("<text x=\"%d\" y=\"50\">Pitch against the note as tuned, %.2f Hz, "
+           "in windows of 1/%d second; 100 cents are a semitone</text>\n",
+           LEFT, TUNED, WINDOWS_A_SECOND);
     printf("<text x=\"%d\" y=\"%d\" text-anchor=\"middle\">time in seconds"
            "</text>\n", (LEFT + RIGHT) / 2, BOTTOM + 38);
     printf("<text transform=\"translate(24 %d) rotate(-90)\" "
@@ -222,14 +224,12 @@ static void draw_points(const struct line *line)
 
 static void draw_label(const struct line *line)
 {
-    double cents = mean(line);
-    double y = height_of(cents);
+    double y = height_of(mean(line));
 
-    cents = fabs(cents) < 0.05 ? 0.0 : cents; /* no minus before a nought */
     printf("<text x=\"%d\" y=\"%.1f\" font-size=\"13\" font-weight=\"600\" "
            "fill=\"%s\">%s", RIGHT + 8, y - 3.0, line->colour, line->name);
     printf("<tspan x=\"%d\" dy=\"16\" font-weight=\"400\">%+.1f cents</tspan>"
-           "</text>\n", RIGHT + 8, cents);
+           "</text>\n", RIGHT + 8, mean(line));
 }
 
 static void draw(void)

@@ -47,7 +47,12 @@ pub fn little_bytes4(x: u32) -> [u8; 4]
     let a = x / 256;
     let b = a / 256;
     let c = b / 256;
-    [(x % 256) as u8, (a % 256) as u8, (b % 256) as u8, (c % 256) as u8]
+    [
+        (x % 256) as u8,
+        (a % 256) as u8,
+        (b % 256) as u8,
+        (c % 256) as u8,
+    ]
 }
 
 // Four bytes in the place of those from `at` on.

@@ -41,10 +41,18 @@ fn sound(score: &[u8])
     let mut memory = [0u16; 4096];
     scores::fill(&mut memory, score);
     let frames = scores::frames_of(&score[8192..]);
-    let head = wave_head::sound_head(2, RATE, (4 * frames) as u32);
-    io::write_all(STDOUT_FILENO, &head);
+    put_head((4 * frames) as u32);
     let mut m = [4294967295u32; machine::RECORD_WORDS];
     render(&mut m, &memory, &score[8192..], frames);
+}
+
+// What stands before so many bytes of sound: 24 of the format chunk and 8 of the data chunk's head are chunks too.
+fn put_head(bytes: u32)
+    requires { ⌜ bytes ≤ 4294967259 ⌝ }
+{
+    io::write_all(STDOUT_FILENO, &wave_head::riff_head(32 + bytes));
+    io::write_all(STDOUT_FILENO, &wave_head::format_chunk(2, RATE));
+    io::write_all(STDOUT_FILENO, &wave_head::data_head(bytes));
 }
 
 // The score in parts, of 16,384 calls each. A score has fewer than 2^46 calls, so that no sum here wraps.

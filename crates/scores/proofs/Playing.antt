@@ -189,7 +189,7 @@ module _ {room : ℕ} {all : List Call} {m₀ sound₀ : List ℕ} {c : Call} {c
   rest-part =
       let e : 4 * (frames + one .frames) ≡ 4 * frames + 4 * one .frames = omega arith in
       let d : drop (4 * frames + 4 * one .frames) sound ≡ drop (4 * frames + 4 * one .frames) sound₀ =
-        sym (drop-drop (4 * one .frames) (4 * frames) sound) ∙ ap (drop (4 * one .frames)) (g .stays) ∙ drop-drop (4 * one .frames) (4 * frames) sound₀ in
+      sym (drop-drop (4 * one .frames) (4 * frames) sound) ∙ ap (drop (4 * one .frames)) (g .stays) ∙ drop-drop (4 * one .frames) (4 * frames) sound₀ in
       after-part ∙ rw (long, e) d
 
   pub next : Going room all m₀ sound₀ cs later heard (calls + 1) (frames + one .frames) (refused + one .refused)
@@ -197,12 +197,12 @@ module _ {room : ℕ} {all : List Call} {m₀ sound₀ : List ℕ} {c : Call} {c
   next =
       let u : framesIn (take room all) ≡ frames + (cond (isFrame c) 1 0 + framesIn xs) = g .counts ∙ ap (λ (l : List Call). frames + framesIn l) cut in
       let v : refusals (answers m₀ (take room all)) ≡ refused + (cond (isDone (answerTo m c)) 0 1 + refusals (answers (after m c) xs)) =
-        g .refuses ∙ ap (λ (l : List Call). refused + refusals (answers m l)) cut in
+      g .refuses ∙ ap (λ (l : List Call). refused + refusals (answers m l)) cut in
       let w : heardFrom m₀ (take room all) ≡ (take (4 * frames) sound ++ heardAt m c) ++ heardFrom (after m c) xs =
-        g .hears ∙ ap (λ (l : List Call). take (4 * frames) sound ++ heardFrom m l) cut
-        ∙ ap (λ (l : List ℕ). take (4 * frames) sound ++ l) (heard-cons m c xs (p .whole)) ∙ sym (append-assoc (take (4 * frames) sound) (heardAt m c) (heardFrom (after m c) xs)) in
+      g .hears ∙ ap (λ (l : List Call). take (4 * frames) sound ++ heardFrom m l) cut
+      ∙ ap (λ (l : List ℕ). take (4 * frames) sound ++ l) (heard-cons m c xs (p .whole)) ∙ sym (append-assoc (take (4 * frames) sound) (heardAt m c) (heardFrom (after m c) xs)) in
       let z : drop (room - calls) (c ∷ cs) ≡ drop (room - (calls + 1)) cs =
-        (let e : room - calls ≡ suc (room - (calls + 1)) = omega arith in rw e refl) in
+      (let e : room - calls ≡ suc (room - (calls + 1)) = omega arith in rw e refl) in
       record {
         leaves = g .leaves ∙ ap (run m) cut ∙ ap (λ (r : List ℕ). run r xs) (sym (p .leaves));
         counts = rw (p .counts) (omega (arith, u));

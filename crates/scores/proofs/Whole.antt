@@ -40,8 +40,8 @@ unfolding answerTo outputFrom frameOutput
 frame-long m memory =
     split _ (isDone (frameAnswer m memory silence))
     (λ t.
-      let d = is-done (frameAnswer m memory silence) t in
-      rw t (heard-length (played memory m) (sound-played memory (done-frame m memory silence d .machine) .size)))
+    let d = is-done (frameAnswer m memory silence) t in
+    rw t (heard-length (played memory m) (sound-played memory (done-frame m memory silence d .machine) .size)))
     (λ f. rw f refl)
 
 abbrev Long : Call → Type 0
@@ -153,10 +153,10 @@ frames-from memory commands zero k = refl
 frames-from memory commands (suc n) k =
     let f : ℕ → ℕ = λ j. framesOf (commandNo commands j) in
     let here : framesIn (callsFrom memory commands (suc n) k) ≡ framesIn (callsOf memory (commandNo commands k)) + framesIn (callsFrom memory commands n (suc k)) =
-      frames-both (callsOf memory (commandNo commands k)) (callsFrom memory commands n (suc k)) in
+    frames-both (callsOf memory (commandNo commands k)) (callsFrom memory commands n (suc k)) in
     let first : f (k + 0) ≡ f k = ap f (add-zero k) in
     let others : sum n (λ i. f (suc k + i)) ≡ sum n (λ i. f (k + suc i)) =
-      sum-ext n (λ i. f (suc k + i)) (λ i. f (k + suc i)) (λ i h. ap f (omega arith)) in
+    sum-ext n (λ i. f (suc k + i)) (λ i. f (k + suc i)) (λ i h. ap f (omega arith)) in
     omega (arith, here, frames-of-command memory (commandNo commands k), frames-from memory commands n (suc k), first, others, sum-first n (λ i. f (k + i)))
 
 pub frames-counted : (memory commands : List ℕ) → scoreFrames commands ≡ framesIn (scoreCalls memory commands)

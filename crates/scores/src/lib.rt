@@ -14,7 +14,7 @@ ghost use Rattle.numbers.specs.Numbers.{word, signed};
 ghost use mathlib.Core.Bool.{cond};
 ghost use Rattle.answer.specs.Answer.{isDone};
 ghost use Rattle.calls.specs.Asks.{callOf};
-ghost use Rattle.scores.specs.Score.{Filled, commandOf, commandAt, commandNo, silence, isFrameAsk, framesOf, scoreFrames, commandCount, allKnown, verdictOf};
+ghost use Rattle.scores.specs.Score.{Filled, repeated, commandOf, commandAt, commandNo, silence, isFrameAsk, framesOf, scoreFrames, commandCount, allKnown, verdictOf};
 ghost use Rattle.scores.specs.Sound.{heardOf, sampleBytes, loudestOf};
 ghost use Rattle.scores.specs.Playing.{Makes, Plays};
 use answer::Answer;
@@ -52,14 +52,23 @@ fn command_of(kind: u8, n: u32, byte: u8) -> Command
     ensures { λ r. ⌜ r ≡ commandOf kind n byte ⌝ }
 {
     match kind {
-        0 => Command { ask: Ask::Reset, times: 1 },
-        1 => Command { ask: Ask::Write(n, byte), times: 1 },
-        2 => Command { ask: Ask::Read(n), times: 1 },
-        3 => Command { ask: Ask::SetPot(n), times: 1 },
-        4 => Command { ask: Ask::Frame, times: 1 },
-        5 => Command { ask: Ask::Waiting, times: 1 },
-        6 => Command { ask: Ask::Frame, times: n },
-        _ => Command { ask: Ask::Frame, times: 0 },
+        0 => repeated(Ask::Reset, 1),
+        1 => repeated(Ask::Write(n, byte), 1),
+        2 => repeated(Ask::Read(n), 1),
+        3 => repeated(Ask::SetPot(n), 1),
+        4 => repeated(Ask::Frame, 1),
+        5 => repeated(Ask::Waiting, 1),
+        6 => repeated(Ask::Frame, n),
+        _ => repeated(Ask::Frame, 0),
+    }
+}
+
+fn repeated(ask: Ask, times: u32) -> Command
+    ensures { λ r. ⌜ r ≡ repeated ask times ⌝ }
+{
+    Command {
+        ask: ask,
+        times: times,
     }
 }
 
@@ -105,11 +114,7 @@ fn command_frames(c: Command) -> u64
     ensures { λ r. ⌜ (r ≡ framesOf c) × (r < 2 ^ 32) ⌝ }
 {
     let ask = c.ask;
-    if is_frame(ask) {
-        c.times as u64
-    } else {
-        0
-    }
+    if is_frame(ask) { c.times as u64 } else { 0 }
 }
 
 // ---- whether a score is good
@@ -225,9 +230,15 @@ fn make(m: &mut [u32], memory: &[u16], ask: Ask, sound: &mut [u8], at: usize) ->
     if is_frame(ask) {
         let four = sample_bytes(&out);
         layout::put4(sound, at, four[0], four[1], four[2], four[3]);
-        Made { frames: 1, refused: refused }
+        Made {
+            frames: 1,
+            refused: refused,
+        }
     } else {
-        Made { frames: 0, refused: refused }
+        Made {
+            frames: 0,
+            refused: refused,
+        }
     }
 }
 
@@ -235,11 +246,7 @@ fn make(m: &mut [u32], memory: &[u16], ask: Ask, sound: &mut [u8], at: usize) ->
 fn refusal(a: Answer) -> usize
     ensures { λ r. ⌜ r ≡ cond (isDone a) 0 1 ⌝ }
 {
-    if answer::number(a) == 0 {
-        0
-    } else {
-        1
-    }
+    if answer::number(a) == 0 { 0 } else { 1 }
 }
 
 // Where a score stands after some calls: its command, and how many of that one's calls are made; and what those calls came to.
@@ -251,7 +258,14 @@ pub struct Played {
 }
 
 // Plays on from a command of which so many calls are made: as many calls as the sound has room for, if each were a frame.
-pub fn play(m: &mut [u32], memory: &[u16], commands: &[u8], command: usize, made: u32, sound: &mut [u8]) -> Played
+pub fn play(
+    m: &mut [u32],
+    memory: &[u16],
+    commands: &[u8],
+    command: usize,
+    made: u32,
+    sound: &mut [u8],
+) -> Played
     requires { ⌜ made ≤ commandNo (now commands) command .times ⌝ }
     ensures { λ r. ⌜ Plays (now (m .entry)) (now (memory .entry)) (now (commands .entry)) command made (now (sound .entry)) r (now (m .exit)) (now (sound .exit)) ⌝ }
     ensures { λ r. ⌜ r .made ≤ commandNo (now (commands .entry)) (r .command) .times ⌝ }
@@ -278,5 +292,10 @@ pub fn play(m: &mut [u32], memory: &[u16], commands: &[u8], command: usize, made
             own = 0;
         }
     }
-    Played { command: k, made: own, frames: frames, refused: refused }
+    Played {
+        command: k,
+        made: own,
+        frames: frames,
+        refused: refused,
+    }
 }

@@ -34,9 +34,9 @@ fewer m memory commands command made part r later heard l h p =
     rw (lt-ltb command (commandCount commands) h)
     (split _ (ltb (r .command) (commandCount commands))
     (λ t.
-      let e : length part / 4 ≡ 16384 = rw l (omega arith) in
-      let d : length (leftFrom memory commands (r .command) (r .made)) ≡ length (leftFrom memory commands command made) - length part / 4 = ap length (p .goes) ∙ length-drop (length part / 4) (leftFrom memory commands command made) in
-      rw t (omega (arith, d, e, p .full (ltb-true (r .command) (commandCount commands) t))))
+    let e : length part / 4 ≡ 16384 = rw l (omega arith) in
+    let d : length (leftFrom memory commands (r .command) (r .made)) ≡ length (leftFrom memory commands command made) - length part / 4 = ap length (p .goes) ∙ length-drop (length part / 4) (leftFrom memory commands command made) in
+    rw t (omega (arith, d, e, p .full (ltb-true (r .command) (commandCount commands) t))))
     (λ f. rw f (omega arith)))
 
 loop-less : tie.Need-loop-less Inv-loop μ-loop

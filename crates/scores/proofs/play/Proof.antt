@@ -85,10 +85,9 @@ returns c =
     let room = length (s .args .sound .now) / 4 in
     let left = leftFrom (s .args .memory .now) commands (l .k) (l .own) in
     let none : l .calls < room → left ≡ [] =
-      λ h. left-none (s .args .memory .now) commands (l .k) (l .own) (ltb-false _ _ (one-is-over (ltb (l .calls) room) (ltb (l .k) (length commands / 6)) (c .loop-test .left) (lt-ltb (l .calls) room h))) in
+    λ h. left-none (s .args .memory .now) commands (l .k) (l .own) (ltb-false _ _ (one-is-over (ltb (l .calls) room) (ltb (l .k) (length commands / 6)) (c .loop-test .left) (lt-ltb (l .calls) room h))) in
     let o = over room (l .calls) left none in
-    let g = l .inv .0 in
-    (
+    let g = l .inv .0 in (
       record {
         leaves = leaves-end g (o .0) (o .1);
         counts = counts-end g (o .0) (o .1);
