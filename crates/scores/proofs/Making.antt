@@ -1,7 +1,7 @@
 -- One call as the code makes it is what is promised of it: a frame, whose values are put as four bytes, and any other, of which nothing is heard.
 -- Assumes nothing.
 use mathlib.Core.Path.{_≡_, refl, sym, ap, _∙_}
-use mathlib.Core.Bool.{Bool, true, false, cond, false≢true}
+use mathlib.Core.Bool.{true, false, cond, false≢true}
 use mathlib.Core.List.{List, [], _∷_}
 use Prim.Native.Nat.{ℕ}
 use native.Mathlib.Nat.{add-zero}
@@ -11,7 +11,7 @@ use Rattle.layout.specs.Parts.{withPart}
 use Rattle.layout.specs.Bytes.{littleBytes}
 use Rattle.answer.specs.Answer.{isDone}
 use Rattle.answer.specs.declared.Answer.{Answer}
-use Rattle.calls.specs.Calls.{Call, answerTo, after, outputFrom}
+use Rattle.calls.specs.Calls.{answerTo, outputFrom}
 use Rattle.calls.specs.Asks.{callOf, outputOf, Performs}
 use Rattle.calls.specs.declared.Ask.{Ask}
 use Rattle.calls.specs.declared.Ask.the-variants as Ask

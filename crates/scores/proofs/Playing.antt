@@ -4,14 +4,13 @@
 use mathlib.Core.Path.{_≡_, refl, sym, ap, subst, _∙_}
 use mathlib.Core.Bool.{Bool, true, false, cond, true≢false}
 use mathlib.Core.List.{List, [], _∷_, _++_, append-assoc, append-nil}
-use Prim.Native.Nat.{ℕ, zero, suc, _+_, _-_, _*_, _/_, _≤_, _<_}
+use Prim.Native.Nat.{ℕ, zero, suc, _+_, _-_, _*_, _≤_, _<_}
 use native.Mathlib.Nat.{add-zero, zero-add}
 use native.Mathlib.Omega.{arith}
 use lib.IntN.{ℤ}
-use lib.ListN.{length, getD, take, drop, replicate, length-append, length-drop, take-append-drop}
+use lib.ListN.{length, take, drop, replicate, length-append}
 use lib.Seq.{length-take-le, take-nil, drop-nil, take-at, drop-at, drop-drop}
 use Rattle.numbers.proofs.Tests.{cases}
-use Rattle.layout.specs.Parts.{withPart}
 use Rattle.layout.specs.Bytes.{littleBytes}
 use Rattle.layout.proofs.Parts.{with-length}
 use Rattle.answer.specs.Answer.{isDone}

@@ -5,11 +5,11 @@
 use mathlib.Core.Path.{_≡_, refl, sym, ap, _∙_}
 use mathlib.Core.Bool.{Bool, true, false, cond, false≢true}
 use mathlib.Core.List.{List, [], _∷_, _++_, append-assoc}
-use Prim.Native.Nat.{ℕ, zero, suc, _+_, _-_, _*_, _/_, _≤_, _<_}
+use Prim.Native.Nat.{ℕ, zero, suc, _+_, _-_, _*_}
 use native.Mathlib.Nat.{add-zero, zero-add}
 use native.Mathlib.Omega.{arith}
 use lib.IntN.{ℤ}
-use lib.ListN.{length, take, drop, replicate, length-append, take-append-drop}
+use lib.ListN.{length, take, drop, replicate, take-append-drop}
 use Rattle.numbers.specs.Sum.{sum}
 use Rattle.numbers.proofs.Sum.{sum-ext}
 use Rattle.numbers.proofs.Tests.{split}
@@ -25,7 +25,6 @@ use Rattle.calls.specs.Calls.{Call, Frame, answerTo, after, outputFrom, run, ou
 use Rattle.calls.specs.Asks.{callOf}
 use Rattle.calls.specs.declared.Ask.{Ask}
 use Rattle.calls.specs.declared.Ask.the-variants as Ask
-use Rattle.calls.proofs.Runs.{frame-sounds}
 use Rattle.scores.specs.Score.{silence, commandNo, commandCount, callsOf, callsFrom, scoreCalls, isFrameAsk, framesOf, scoreFrames}
 use Rattle.scores.specs.Sound.{sampleBytes, soundOf}
 use Rattle.scores.specs.Playing.{leftFrom, isFrame, framesIn, heardFrom, heardAt}

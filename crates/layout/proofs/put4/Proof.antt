@@ -1,8 +1,7 @@
 -- `layout::put4` meets its contract: four elements are put one after the other. Assumes nothing.
-use Prim.Native.Nat.{_+_, _≤_, _<_}
 use native.Mathlib.Omega.{arith}
 use borrow.Author.Needs.{needs}
-use lib.ListN.{length, length-set}
+use lib.ListN.{length-set}
 use Rattle.layout.proofs.Parts.{put-4}
 use Rattle.layout.proofs.put4.Statement.{statement}
 use Rattle.layout.proofs.put4.Tie as tie

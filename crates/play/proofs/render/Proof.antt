@@ -1,15 +1,14 @@
 -- `play::render` meets its contract: it ends, since each part but the last makes all its calls, and fewer are left. Assumes nothing.
 use mathlib.Core.Path.{_≡_, refl, sym, ap, _∙_}
-use mathlib.Core.Bool.{Bool, true, false, cond}
+use mathlib.Core.Bool.{cond}
 use mathlib.Core.List.{List}
-use Prim.Native.Nat.{ℕ, suc, _+_, _-_, _*_, _/_, _≤_, _<_}
+use Prim.Native.Nat.{ℕ, _+_, _-_, _/_, _≤_, _<_}
 use native.Mathlib.Omega.{arith}
 use borrow.Author.Needs.{needs}
 use borrow.Author.Tests.{lt-ltb, ltb-true}
 use lib.Dec.{ltb}
-use lib.ListN.{length, drop, length-drop}
+use lib.ListN.{length, length-drop}
 use Rattle.numbers.proofs.Tests.{split}
-use Rattle.calls.specs.Calls.{Call}
 use Rattle.scores.specs.Score.{commandNo, commandCount}
 use Rattle.scores.specs.Playing.{leftFrom, Plays}
 use Rattle.scores.specs.declared.Played.{Played}

@@ -1,8 +1,6 @@
 -- `scores::command_frames` meets its contract. Assumes nothing.
 use mathlib.Core.Path.{_≡_, sym, _∙_}
 use mathlib.Core.Bool.{Bool, true, false}
-use Prim.Native.Nat.{_^_, _<_}
-use native.Mathlib.Omega.{arith}
 use borrow.Author.Needs.{needs}
 use Rattle.scores.specs.Score.{isFrameAsk, framesOf}
 use Rattle.scores.specs.declared.Command.{Command}

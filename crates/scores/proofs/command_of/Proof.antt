@@ -1,5 +1,4 @@
 -- `scores::command_of` meets its contract: each arm is the definition's case. Assumes nothing.
-use mathlib.Core.Path.{_∙_}
 use borrow.Author.Needs.{needs}
 use borrow.Author.Tests.{ne-eqb}
 use Rattle.scores.specs.Score.{commandOf}

@@ -1,16 +1,16 @@
 -- `scores::heard` meets its contract: six numbers of 32 bits add up in 64, and a shift is the division that rounds down. Assumes nothing.
 use mathlib.Core.Path.{_≡_, sym, ap, subst, _∙_}
-use Prim.Native.Nat.{ℕ, _+_, _*_, _/_, _≤_, _<_, _^_}
+use Prim.Native.Nat.{_+_, _*_, _/_, _^_}
 use native.Mathlib.Omega.{arith}
 use borrow.Author.Needs.{needs}
 use lib.IntN.{ℤ, pos, _+ℤ_}
-use lib.Signed.{mag, shrZ}
+use lib.Signed.{shrZ}
 use mir.Syntax.{w32, w64}
 use mir.Val.{SFits, toZ, ofZ}
 use Rattle.numbers.specs.Numbers.{floorDiv, minus, held, word, Bits, Within}
 use Rattle.numbers.proofs.Within.{of-bits, widen}
 use Rattle.numbers.proofs.Words.{held-mag}
-use Rattle.numbers.proofs.Local.{Num, Done, any, add, shr, cast, back}
+use Rattle.numbers.proofs.Local.{Done, any, add, shr, cast, back}
 use Rattle.scores.specs.Sound.{heardOf}
 use Rattle.scores.proofs.heard.Statement.{statement}
 use Rattle.scores.proofs.heard.Tie as tie

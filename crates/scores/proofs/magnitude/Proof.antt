@@ -1,10 +1,10 @@
 -- `scores::magnitude` meets its contract: from the middle on, a word stands for a number below 0. Assumes nothing.
-use mathlib.Core.Path.{_≡_, refl, sym, _∙_}
-use Prim.Native.Nat.{ℕ, _-_, _≤_, _<_, _^_}
+use mathlib.Core.Path.{_≡_, refl}
+use Prim.Native.Nat.{ℕ, _-_, _≤_, _<_}
 use native.Mathlib.Omega.{arith}
 use borrow.Author.Needs.{needs}
 use borrow.Author.Tests.{lt-ltb, le-ltb}
-use lib.IntN.{pos, natAbs, _-ℤ_}
+use lib.IntN.{natAbs}
 use Rattle.numbers.specs.Numbers.{signed}
 use Rattle.scores.proofs.magnitude.Statement.{statement}
 use Rattle.scores.proofs.magnitude.Tie as tie

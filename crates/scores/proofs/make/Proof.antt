@@ -1,6 +1,5 @@
 -- `scores::make` meets its contract: what `perform` promises of the call, and the four bytes of a frame. Assumes nothing.
 use mathlib.Core.Path.{_≡_, sym, _∙_}
-use native.Mathlib.Omega.{arith}
 use borrow.Author.Needs.{needs}
 use lib.ListN.{length}
 use Rattle.scores.proofs.Making.{a-frame, another}
