@@ -38,12 +38,12 @@ fn complain(text: &[u8]) {
 fn sound(score: &[u8])
     requires { ⌜ verdictOf (now score) ≡ Good ⌝ }
 {
-    let mut memory = [0u16; 4096];
+    let mut memory = [0u16; scores::MEMORY_WORDS];
     scores::fill(&mut memory, score);
-    let frames = scores::frames_of(&score[8192..]);
+    let frames = scores::frames_of(&score[scores::MEMORY_BYTES..]);
     put_head((4 * frames) as u32);
     let mut m = [4294967295u32; machine::RECORD_WORDS];
-    render(&mut m, &memory, &score[8192..], frames);
+    render(&mut m, &memory, &score[scores::MEMORY_BYTES..], frames);
 }
 
 // What stands before so many bytes of sound: 24 of the format chunk and 8 of the data chunk's head are chunks too.
@@ -63,7 +63,7 @@ fn render(m: &mut [u32], memory: &[u16], commands: &[u8], frames: u64) {
     let mut played = 0;
     let mut refused = 0;
     let mut loud = 0;
-    while command < commands.len() / 6 {
+    while command < commands.len() / scores::COMMAND_BYTES {
         let p = scores::play(m, memory, commands, command, made, &mut part);
         loud = put(&part, p.frames, loud);
         played = std::num::wrapping_add_u64(played, p.frames as u64);
@@ -79,7 +79,7 @@ fn render(m: &mut [u32], memory: &[u16], commands: &[u8], frames: u64) {
 fn put(part: &[u8], frames: usize, loud: u32) -> u32
     requires { ⌜ 4 * frames ≤ length (now part) ⌝ }
 {
-    let bytes = 4 * frames;
+    let bytes = scores::SAMPLE_BYTES * frames;
     io::write_all(STDOUT_FILENO, &part[..bytes]);
     scores::loudest(&part[..bytes], loud)
 }

@@ -18,17 +18,22 @@ fn main() {
     if n < scores::MEMORY_BYTES {
         return;
     }
-    let mut memory = [0u16; 4096];
+    let mut memory = [0u16; scores::MEMORY_WORDS];
     scores::fill(&mut memory, &input[..n]);
     let mut m = [4294967295u32; machine::RECORD_WORDS];
     let mut out = [0i32; machine::OUTPUT_VALUES];
-    play(&mut m, &memory, &mut out, &input[8192..n]);
+    play(&mut m, &memory, &mut out, &input[scores::MEMORY_BYTES..n]);
 }
 
 // The commands in turn.
 fn play(m: &mut [u32], memory: &[u16], out: &mut [i32], commands: &[u8]) {
-    for k in 0..commands.len() / 6 {
-        obey(m, memory, out, scores::command_at(commands, 6 * k));
+    for k in 0..commands.len() / scores::COMMAND_BYTES {
+        obey(
+            m,
+            memory,
+            out,
+            scores::command_at(commands, scores::COMMAND_BYTES * k),
+        );
     }
 }
 

@@ -28,6 +28,9 @@ pub const COMMAND_BYTES: usize = 6;
 
 pub const MOST_BYTES: usize = 65536;
 
+// Of what is heard of a frame, left and right.
+pub const SAMPLE_BYTES: usize = 4;
+
 // Four bytes each are at most what a WAVE file holds.
 pub const MOST_FRAMES: u64 = 1073741814;
 
@@ -104,8 +107,8 @@ pub fn frames_of(commands: &[u8]) -> u64
     ensures { λ r. ⌜ r ≡ scoreFrames (now (commands .entry)) ⌝ }
 {
     let mut n = 0;
-    for k in 0..commands.len() / 6 {
-        n += command_frames(command_at(commands, 6 * k));
+    for k in 0..commands.len() / COMMAND_BYTES {
+        n += command_frames(command_at(commands, COMMAND_BYTES * k));
     }
     n
 }
@@ -146,10 +149,10 @@ pub fn judge(score: &[u8]) -> Verdict
     if (n - MEMORY_BYTES) % COMMAND_BYTES != 0 {
         return Verdict::Cut;
     }
-    if !all_known(&score[8192..]) {
+    if !all_known(&score[MEMORY_BYTES..]) {
         return Verdict::Unknown;
     }
-    if MOST_FRAMES < frames_of(&score[8192..]) {
+    if MOST_FRAMES < frames_of(&score[MEMORY_BYTES..]) {
         return Verdict::TooManyFrames;
     }
     Verdict::Good
@@ -159,8 +162,8 @@ fn all_known(commands: &[u8]) -> bool
     ensures { λ r. ⌜ r ≡ allKnown (now (commands .entry)) (commandCount (now (commands .entry))) ⌝ }
 {
     let mut known = true;
-    for k in 0..commands.len() / 6 {
-        known = known & (commands[6 * k] <= 6);
+    for k in 0..commands.len() / COMMAND_BYTES {
+        known = known & (commands[COMMAND_BYTES * k] <= 6);
     }
     known
 }
@@ -223,7 +226,7 @@ fn make(m: &mut [u32], memory: &[u16], ask: Ask, sound: &mut [u8], at: usize) ->
     requires { ⌜ at + 4 ≤ length (now sound) ⌝ }
     ensures { λ r. ⌜ Makes (now (m .entry)) (callOf ask (now (memory .entry)) silence) (now (sound .entry)) at r (now (m .exit)) (now (sound .exit)) ⌝ }
 {
-    let mut out = [0i32; 12];
+    let mut out = [0i32; machine::OUTPUT_VALUES];
     let reply = calls::perform(m, ask, memory, &mut out);
     let answer = reply.answer;
     let refused = refusal(answer);
@@ -271,18 +274,18 @@ pub fn play(
     ensures { λ r. ⌜ r .made ≤ commandNo (now (commands .entry)) (r .command) .times ⌝ }
     ensures { λ r. ⌜ 4 * r .frames ≤ length (now (sound .entry)) ⌝ }
 {
-    let room = sound.len() / 4;
-    let count = commands.len() / 6;
+    let room = sound.len() / SAMPLE_BYTES;
+    let count = commands.len() / COMMAND_BYTES;
     let mut k = command;
     let mut own = made;
     let mut calls = 0;
     let mut frames = 0;
     let mut refused = 0;
     while (calls < room) & (k < count) {
-        let c = command_at(commands, 6 * k);
+        let c = command_at(commands, COMMAND_BYTES * k);
         let ask = c.ask;
         if own < c.times {
-            let one = make(m, memory, ask, sound, 4 * frames);
+            let one = make(m, memory, ask, sound, SAMPLE_BYTES * frames);
             own += 1;
             calls += 1;
             frames += one.frames;
