@@ -631,7 +631,6 @@ static void make_short(void)
 static unsigned char input[MOST_BYTES];
 static uint16_t memory[MEMORY_WORDS];
 static uint32_t record[RECORD_WORDS];
-static int32_t output[OUTPUT_VALUES];
 
 static uint32_t number_of(const unsigned char *bytes, uint32_t count)
 {
@@ -646,6 +645,7 @@ static uint32_t number_of(const unsigned char *bytes, uint32_t count)
 
 static void print_frame(void)
 {
+    int32_t output[OUTPUT_VALUES] = { 0 };
     uint32_t place;
     uint32_t missing;
     uint32_t answer = reference_frame(record, RECORD_WORDS, memory,

@@ -1,4 +1,5 @@
-// Numbers of two and of four bytes, in either order: made of their bytes, and read at a place of a slice; and the bytes of a number, the lowest first.
+// Numbers of two and of four bytes, in either order: made of their bytes, and read at a place of a slice; the bytes of a number, the lowest first; and four bytes
+// put into a slice.
 // What the places of a file are is the format's own; here is only how its numbers are written.
 ghost use mathlib.Core.Path.{_≡_};
 ghost use mathlib.Core.List.{[], _∷_};
@@ -55,17 +56,6 @@ pub fn little_bytes4(x: u32) -> [u8; 4]
     ]
 }
 
-// Four bytes in the place of those from `at` on.
-pub fn put4(bytes: &mut [u8], at: usize, a: u8, b: u8, c: u8, d: u8)
-    requires { ⌜ at + 4 ≤ length (now bytes) ⌝ }
-    ensures { λ _. ⌜ now (bytes .exit) ≡ withPart (now (bytes .entry)) at (a ∷ b ∷ c ∷ d ∷ []) ⌝ }
-{
-    bytes[at] = a;
-    bytes[at + 1] = b;
-    bytes[at + 2] = c;
-    bytes[at + 3] = d;
-}
-
 // ---- the highest byte first
 
 fn big2(a: u8, b: u8) -> u16
@@ -92,4 +82,17 @@ pub fn big4_at(bytes: &[u8], at: usize) -> u32
     ensures { λ r. ⌜ r ≡ big4At (now (bytes .entry)) at ⌝ }
 {
     big4(bytes[at], bytes[at + 1], bytes[at + 2], bytes[at + 3])
+}
+
+// ---- bytes put
+
+// Four bytes in the place of those from `at` on.
+pub fn put4(bytes: &mut [u8], at: usize, a: u8, b: u8, c: u8, d: u8)
+    requires { ⌜ at + 4 ≤ length (now bytes) ⌝ }
+    ensures { λ _. ⌜ now (bytes .exit) ≡ withPart (now (bytes .entry)) at (a ∷ b ∷ c ∷ d ∷ []) ⌝ }
+{
+    bytes[at] = a;
+    bytes[at + 1] = b;
+    bytes[at + 2] = c;
+    bytes[at + 3] = d;
 }

@@ -11,8 +11,6 @@ use libc::STDIN_FILENO;
 use libc::STDOUT_FILENO;
 use scores::Verdict;
 
-const RATE: u32 = 31250;
-
 // One byte more than a score may have is read, so that a longer one is seen.
 fn main() {
     let mut input = [0u8; 65537];
@@ -46,12 +44,15 @@ fn sound(score: &[u8])
     render(&mut m, &memory, &score[scores::MEMORY_BYTES..], frames);
 }
 
-// What stands before so many bytes of sound: 24 of the format chunk and 8 of the data chunk's head are chunks too.
+// What stands before so many bytes of sound.
 fn put_head(bytes: u32)
     requires { ⌜ bytes ≤ 4294967259 ⌝ }
 {
-    io::write_all(STDOUT_FILENO, &wave_head::riff_head(32 + bytes));
-    io::write_all(STDOUT_FILENO, &wave_head::format_chunk(2, RATE));
+    io::write_all(
+        STDOUT_FILENO,
+        &wave_head::riff_head(wave_head::CHUNKS_BYTES + bytes),
+    );
+    io::write_all(STDOUT_FILENO, &wave_head::format_chunk(2, wave_head::RATE));
     io::write_all(STDOUT_FILENO, &wave_head::data_head(bytes));
 }
 
@@ -63,6 +64,7 @@ fn render(m: &mut [u32], memory: &[u16], commands: &[u8], frames: u64) {
     let mut played = 0;
     let mut refused = 0;
     let mut loud = 0;
+    say_progress(0, frames);
     while command < commands.len() / scores::COMMAND_BYTES {
         let p = scores::play(m, memory, commands, command, made, &mut part);
         loud = put(&part, p.frames, loud);
@@ -86,9 +88,9 @@ fn put(part: &[u8], frames: usize, loud: u32) -> u32
 
 fn say_progress(played: u64, frames: u64) {
     io::write_all(STDERR_FILENO, b"\rplay: ");
-    io::print_decimal(STDERR_FILENO, played / RATE as u64);
+    io::print_decimal(STDERR_FILENO, played / wave_head::RATE as u64);
     io::write_all(STDERR_FILENO, b" of ");
-    io::print_decimal(STDERR_FILENO, frames / RATE as u64);
+    io::print_decimal(STDERR_FILENO, frames / wave_head::RATE as u64);
     io::write_all(STDERR_FILENO, b" seconds");
 }
 

@@ -21,28 +21,27 @@ fn main() {
     let mut memory = [0u16; scores::MEMORY_WORDS];
     scores::fill(&mut memory, &input[..n]);
     let mut m = [4294967295u32; machine::RECORD_WORDS];
-    let mut out = [0i32; machine::OUTPUT_VALUES];
-    play(&mut m, &memory, &mut out, &input[scores::MEMORY_BYTES..n]);
+    play(&mut m, &memory, &input[scores::MEMORY_BYTES..n]);
 }
 
 // The commands in turn.
-fn play(m: &mut [u32], memory: &[u16], out: &mut [i32], commands: &[u8]) {
+fn play(m: &mut [u32], memory: &[u16], commands: &[u8]) {
     for k in 0..commands.len() / scores::COMMAND_BYTES {
         obey(
             m,
             memory,
-            out,
             scores::command_at(commands, scores::COMMAND_BYTES * k),
         );
     }
 }
 
 // A command's calls.
-fn obey(m: &mut [u32], memory: &[u16], out: &mut [i32], c: Command) {
+fn obey(m: &mut [u32], memory: &[u16], c: Command) {
     let ask = c.ask;
     for _ in 0..c.times {
-        let reply = calls::perform(m, ask, memory, out);
-        say(ask, reply, out);
+        let mut out = [0i32; machine::OUTPUT_VALUES];
+        let reply = calls::perform(m, ask, memory, &mut out);
+        say(ask, reply, &out);
     }
     if c.times == 0 {
         io::write_all(STDOUT_FILENO, b"no call\n");

@@ -22,10 +22,11 @@ use Rattle.scores.specs.Sound.{sampleBytes, soundOf}
 use Rattle.scores.specs.Playing.{leftFrom, isFrame, framesIn, refusals, heardFrom, heardAt, Makes}
 use Rattle.scores.specs.declared.Command.{Command}
 use Rattle.scores.specs.declared.Made.{Made}
+use Rattle.scores.proofs.Making.{Long}
 
 -- ---- the calls that are left
 
--- the calls of n + 1 commands are those of the first and those of the others
+-- calls of which d are made
 drop-repeated : (x : Call) (t d : ℕ) (rest : List Call) → d < t → drop d (replicate t x ++ rest) ≡ x ∷ drop (suc d) (replicate t x ++ rest)
 drop-repeated x zero d rest h = absurd (omega arith)
 drop-repeated x (suc t) zero rest h = refl
@@ -42,6 +43,7 @@ module _ (memory commands : List ℕ) (k : ℕ) (h : k < commandCount commands) 
   others : List Call
   others = callsFrom memory commands (commandCount commands - suc k) (suc k)
 
+  -- the calls of the first command, and those of the others
   here : callsFrom memory commands (commandCount commands - k) k ≡ replicate (commandNo commands k .times) call ++ others
   unfolding callsFrom callsOf call others
   here =
@@ -155,7 +157,7 @@ begins room all m sound =
 -- one call more
 module _ {room : ℕ} {all : List Call} {m₀ sound₀ : List ℕ} {c : Call} {cs : List Call} {m sound : List ℕ} {calls frames refused : ℕ}
     (g : Going room all m₀ sound₀ (c ∷ cs) m sound calls frames refused) (h : calls < room) (fits : 4 * room ≤ length sound₀)
-    {one : Made} {later heard : List ℕ} (p : Makes m c sound (4 * frames) one later heard) where
+    (w : Long c) {one : Made} {later heard : List ℕ} (p : Makes m c sound (4 * frames) one later heard) where
   xs : List Call
   xs = take (room - (calls + 1)) cs
 
@@ -197,16 +199,16 @@ module _ {room : ℕ} {all : List Call} {m₀ sound₀ : List ℕ} {c : Call} {c
       let u : framesIn (take room all) ≡ frames + (cond (isFrame c) 1 0 + framesIn xs) = g .counts ∙ ap (λ (l : List Call). frames + framesIn l) cut in
       let v : refusals (answers m₀ (take room all)) ≡ refused + (cond (isDone (answerTo m c)) 0 1 + refusals (answers (after m c) xs)) =
       g .refuses ∙ ap (λ (l : List Call). refused + refusals (answers m l)) cut in
-      let w : heardFrom m₀ (take room all) ≡ (take (4 * frames) sound ++ heardAt m c) ++ heardFrom (after m c) xs =
+      let y : heardFrom m₀ (take room all) ≡ (take (4 * frames) sound ++ heardAt m c) ++ heardFrom (after m c) xs =
       g .hears ∙ ap (λ (l : List Call). take (4 * frames) sound ++ heardFrom m l) cut
-      ∙ ap (λ (l : List ℕ). take (4 * frames) sound ++ l) (heard-cons m c xs (p .whole)) ∙ sym (append-assoc (take (4 * frames) sound) (heardAt m c) (heardFrom (after m c) xs)) in
+      ∙ ap (λ (l : List ℕ). take (4 * frames) sound ++ l) (heard-cons m c xs (w m)) ∙ sym (append-assoc (take (4 * frames) sound) (heardAt m c) (heardFrom (after m c) xs)) in
       let z : drop (room - calls) (c ∷ cs) ≡ drop (room - (calls + 1)) cs =
       (let e : room - calls ≡ suc (room - (calls + 1)) = omega arith in rw e refl) in
       record {
         leaves = g .leaves ∙ ap (run m) cut ∙ ap (λ (r : List ℕ). run r xs) (sym (p .leaves));
         counts = rw (p .counts) (omega (arith, u));
         refuses = rw (p .refuses, p .leaves) (omega (arith, v));
-        hears = rw (heard-part, p .leaves) w;
+        hears = rw (heard-part, p .leaves) y;
         stays = rest-part;
         goes = g .goes ∙ z;
         long = rw (p .hears) (with-length sound (4 * frames) (heardAt m c) room-for ∙ g .long);

@@ -1,59 +1,29 @@
 -- A whole score: what is heard of it is heard of its parts, one after the other, wherever it is cut; how many bytes that is; and that its frames are
 -- counted right.
--- In order: a frame that is lent twelve zeros leaves twelve values, refused or not; so do all frames of a score; two runs (`heard-both`); a score in two
--- parts (`in-parts`); its bytes (`heard-bytes`); its frames (`frames-counted`). Assumes nothing.
+-- In order: all frames of a score leave twelve values; two runs (`heard-both`); a score in two parts (`in-parts`), the first of which was played
+-- (`part-heard`); two outcomes of playing one (`one-part`); a score's bytes (`heard-bytes`); its frames (`frames-counted`). Assumes nothing.
 use mathlib.Core.Path.{_≡_, refl, sym, ap, _∙_}
-use mathlib.Core.Bool.{Bool, true, false, cond, false≢true}
+use mathlib.Core.Bool.{Bool, true, false, cond}
 use mathlib.Core.List.{List, [], _∷_, _++_, append-assoc}
-use Prim.Native.Nat.{ℕ, zero, suc, _+_, _-_, _*_}
+use Prim.Native.Nat.{ℕ, zero, suc, _+_, _-_, _*_, _/_}
 use native.Mathlib.Nat.{add-zero, zero-add}
 use native.Mathlib.Omega.{arith}
 use lib.IntN.{ℤ}
 use lib.ListN.{length, take, drop, replicate, take-append-drop}
 use Rattle.numbers.specs.Sum.{sum}
 use Rattle.numbers.proofs.Sum.{sum-ext}
-use Rattle.numbers.proofs.Tests.{split}
 use Rattle.layout.specs.Bytes.{littleBytes}
-use Rattle.answer.specs.Answer.{isDone}
-use Rattle.answer.proofs.Refusals.{is-done}
 use Rattle.machine.specs.Words.{OUTPUT_VALUES}
-use Rattle.frame.specs.Frame.{played, frameAnswer, frameOutput}
-use Rattle.frame.proofs.Answered.{done-frame}
-use Rattle.frame.proofs.Keeps.{sound-played}
-use Rattle.frame.proofs.Leaves.{heard-length}
-use Rattle.calls.specs.Calls.{Call, Frame, answerTo, after, outputFrom, run, outputs}
+use Rattle.calls.specs.Calls.{Call, after, run, outputs}
 use Rattle.calls.specs.Asks.{callOf}
-use Rattle.calls.specs.declared.Ask.{Ask}
 use Rattle.calls.specs.declared.Ask.the-variants as Ask
 use Rattle.scores.specs.Score.{silence, commandNo, commandCount, callsOf, callsFrom, scoreCalls, isFrameAsk, framesOf, scoreFrames}
 use Rattle.scores.specs.Sound.{sampleBytes, soundOf}
-use Rattle.scores.specs.Playing.{leftFrom, isFrame, framesIn, heardFrom, heardAt}
+use Rattle.scores.specs.Playing.{leftFrom, isFrame, framesIn, heardFrom, heardAt, Plays}
 use Rattle.scores.specs.declared.Command.{Command}
-use Rattle.scores.proofs.Making.{asks-frame}
+use Rattle.scores.specs.declared.Played.{Played}
+use Rattle.scores.proofs.Making.{asks-frame, Long, call-long}
 use Rattle.scores.proofs.Playing.{heard-cons}
-
--- ---- twelve values
-
-frame-long : (m memory : List ℕ) → length (outputFrom m (Frame memory silence)) ≡ OUTPUT_VALUES
-unfolding answerTo outputFrom frameOutput
-frame-long m memory =
-    split _ (isDone (frameAnswer m memory silence))
-    (λ t.
-    let d = is-done (frameAnswer m memory silence) t in
-    rw t (heard-length (played memory m) (sound-played memory (done-frame m memory silence d .machine) .size)))
-    (λ f. rw f refl)
-
-abbrev Long : Call → Type 0
-Long c = (m : List ℕ) → isFrame c ≡ true → length (outputFrom m c) ≡ OUTPUT_VALUES
-
-call-long : (ask : Ask) (memory : List ℕ) → Long (callOf ask memory silence)
-unfolding isFrame
-call-long Ask.Reset memory m h = absurd (false≢true h)
-call-long (Ask.Write a b) memory m h = absurd (false≢true h)
-call-long (Ask.Read a) memory m h = absurd (false≢true h)
-call-long (Ask.SetPot p) memory m h = absurd (false≢true h)
-call-long Ask.Waiting memory m h = absurd (false≢true h)
-call-long Ask.Frame memory m h = frame-long m memory
 
 -- each call of a list
 abbrev AllLong : List Call → Type 0
@@ -108,6 +78,27 @@ in-parts m memory commands k made n =
     let cs = leftFrom memory commands k made in
     let a = drop-long made (callsFrom memory commands (commandCount commands - k) k) (calls-long memory commands (commandCount commands - k) k) in
     ap (heardFrom m) (sym (take-append-drop n cs)) ∙ heard-both m (take n cs) (drop n cs) (take-long n cs a)
+
+-- a part that was played, and what is left of the score after it
+module _ {m memory commands : List ℕ} {k made : ℕ} {sound : List ℕ} {r : Played} {later heard : List ℕ} (p : Plays m memory commands k made sound r later heard) where
+  pub part-heard : heardFrom m (leftFrom memory commands k made) ≡ take (4 * r .frames) heard ++ heardFrom later (leftFrom memory commands (r .command) (r .made))
+  part-heard = in-parts m memory commands k made (length sound / 4) ∙ rw (p .hears, p .leaves, p .goes) refl
+
+  -- two outcomes are equal, but that the place in the score may have another name: the calls that are left are the same
+  pub one-part : {s : Played} {later′ heard′ : List ℕ} → Plays m memory commands k made sound s later′ heard′
+      → (later ≡ later′) × (heard ≡ heard′) × (r .frames ≡ s .frames) × (r .refused ≡ s .refused)
+      × (leftFrom memory commands (r .command) (r .made) ≡ leftFrom memory commands (s .command) (s .made))
+  one-part {s} {heard′} q =
+      let f : r .frames ≡ s .frames = p .counts ∙ sym (q .counts) in
+      let t : take (4 * r .frames) heard ≡ take (4 * r .frames) heard′ = p .hears ∙ sym (q .hears) ∙ ap (λ (n : ℕ). take (4 * n) heard′) (sym f) in
+      let d : drop (4 * r .frames) heard ≡ drop (4 * r .frames) heard′ =
+      p .stays ∙ ap (λ (n : ℕ). drop (4 * n) sound) f ∙ sym (q .stays) ∙ ap (λ (n : ℕ). drop (4 * n) heard′) (sym f) in (
+        p .leaves ∙ sym (q .leaves),
+        sym (take-append-drop (4 * r .frames) heard) ∙ (λ i. t i ++ d i) ∙ take-append-drop (4 * r .frames) heard′,
+        f,
+        p .refuses ∙ sym (q .refuses),
+        p .goes ∙ sym (q .goes),
+      )
 
 -- four bytes a frame
 sound-bytes : (n : ℕ) (values : List ℤ) → length (soundOf n values) ≡ 4 * n

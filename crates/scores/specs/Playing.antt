@@ -9,9 +9,8 @@ use lib.ListN.{length, take, drop}
 use Rattle.layout.specs.Parts.{withPart}
 use Rattle.answer.specs.Answer.{isDone}
 use Rattle.answer.specs.declared.Answer.{Answer}
-use Rattle.machine.specs.Words.{OUTPUT_VALUES}
 use Rattle.calls.specs.Calls.{Call, Reset, Write, Read, SetPot, Waiting, Frame, answerTo, after, outputFrom, run, answers, outputs}
-use Rattle.scores.specs.Score.{callsFrom, commandCount}
+use Rattle.scores.specs.Score.{callsFrom, commandNo, commandCount}
 use Rattle.scores.specs.Sound.{sampleBytes, soundOf}
 use Rattle.scores.specs.declared.Made.{Made}
 use Rattle.scores.specs.declared.Played.{Played}
@@ -48,15 +47,14 @@ heardFrom m cs = soundOf (framesIn cs) (outputs m cs)
 unfoldable pub heardAt : List ℕ → Call → List ℕ
 heardAt m c = cond (isFrame c) (sampleBytes (outputFrom m c)) []
 
--- it is made, and what is heard of it put at a place of the sound; a frame's output has its twelve values
+-- it is made, and what is heard of it put at a place of the sound
 pub record Makes (m : List ℕ) (c : Call) (sound : List ℕ) (at : ℕ) (r : Made) (later heard : List ℕ) : Type 0 where
   pub leaves : later ≡ after m c
   pub hears : heard ≡ withPart sound at (heardAt m c)
   pub counts : r .frames ≡ cond (isFrame c) 1 0
   pub refuses : r .refused ≡ cond (isDone (answerTo m c)) 0 1
-  pub whole : isFrame c ≡ true → length (outputFrom m c) ≡ OUTPUT_VALUES
 
--- ---- As many calls as the sound has room for, from a place of the score on. Where a command is left after them, there were no fewer.
+-- ---- as many calls as the sound has room for, from a place of the score on; fewer only where no command is left
 
 abbrev pub nextCalls : List ℕ → List ℕ → ℕ → ℕ → List ℕ → List Call
 nextCalls memory commands k made sound = take (length sound / 4) (leftFrom memory commands k made)
@@ -68,4 +66,6 @@ pub record Plays (m memory commands : List ℕ) (k made : ℕ) (sound : List ℕ
   pub hears : take (4 * r .frames) heard ≡ heardFrom m (nextCalls memory commands k made sound)
   pub stays : drop (4 * r .frames) heard ≡ drop (4 * r .frames) sound
   pub goes : leftFrom memory commands (r .command) (r .made) ≡ drop (length sound / 4) (leftFrom memory commands k made)
+  pub fits : 4 * r .frames ≤ length sound
+  pub within : r .made ≤ commandNo commands (r .command) .times
   pub full : r .command < commandCount commands → length sound / 4 ≤ length (leftFrom memory commands k made)

@@ -39,16 +39,19 @@ commandOf kind n byte =
     (cond (eqb kind 5) (repeated Waiting 1)
     (cond (eqb kind 6) (repeated Frame n) (repeated Frame 0)))))))
 
--- the command whose six bytes begin at i, and command k of all, which are counted from 0
+abbrev pub COMMAND_BYTES : ℕ
+COMMAND_BYTES = 6
+
+-- the command whose bytes begin at i, and command k of all, which are counted from 0
 abbrev pub commandAt : List ℕ → ℕ → Command
 commandAt xs i = commandOf (getD xs i 0) (big4At xs (i + 1)) (getD xs (i + 5) 0)
 
 abbrev pub commandNo : List ℕ → ℕ → Command
-commandNo xs k = commandAt xs (6 * k)
+commandNo xs k = commandAt xs (COMMAND_BYTES * k)
 
 -- how many whole commands there are
 abbrev pub commandCount : List ℕ → ℕ
-commandCount xs = length xs / 6
+commandCount xs = length xs / COMMAND_BYTES
 
 -- ---- the calls
 
@@ -93,13 +96,14 @@ MOST_BYTES = 65536
 abbrev pub MEMORY_BYTES : ℕ
 MEMORY_BYTES = 8192
 
+-- four bytes each, and 36 that a WAVE file's own number counts beside them, are below 2 ^ 32
 abbrev pub MOST_FRAMES : ℕ
 MOST_FRAMES = 1073741814
 
 -- the first n commands are of kinds 0 to 6
 unfoldable pub allKnown : List ℕ → ℕ → Bool
 allKnown commands zero = true
-allKnown commands (suc n) = allKnown commands n && leb (getD commands (6 * n) 0) 6
+allKnown commands (suc n) = allKnown commands n && leb (getD commands (COMMAND_BYTES * n) 0) 6
 
 -- the first of these that holds
 unfoldable pub verdictOf : List ℕ → Verdict
@@ -107,6 +111,6 @@ verdictOf score =
     let commands = drop MEMORY_BYTES score in
     cond (ltb MOST_BYTES (length score)) TooLong
     (cond (ltb (length score) MEMORY_BYTES) NoMemory
-    (cond (not (eqb ((length score - MEMORY_BYTES) % 6) 0)) Cut
+    (cond (not (eqb ((length score - MEMORY_BYTES) % COMMAND_BYTES) 0)) Cut
     (cond (not (allKnown commands (commandCount commands))) Unknown
     (cond (ltb MOST_FRAMES (scoreFrames commands)) TooManyFrames Good))))

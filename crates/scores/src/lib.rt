@@ -271,8 +271,6 @@ pub fn play(
 ) -> Played
     requires { ⌜ made ≤ commandNo (now commands) command .times ⌝ }
     ensures { λ r. ⌜ Plays (now (m .entry)) (now (memory .entry)) (now (commands .entry)) command made (now (sound .entry)) r (now (m .exit)) (now (sound .exit)) ⌝ }
-    ensures { λ r. ⌜ r .made ≤ commandNo (now (commands .entry)) (r .command) .times ⌝ }
-    ensures { λ r. ⌜ 4 * r .frames ≤ length (now (sound .entry)) ⌝ }
 {
     let room = sound.len() / SAMPLE_BYTES;
     let count = commands.len() / COMMAND_BYTES;

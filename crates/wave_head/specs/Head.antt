@@ -1,7 +1,8 @@
 -- What a WAVE file begins with, as bytes. Numbers have their lowest byte first.
--- In order: the file's own head; the format chunk; the data chunk's head; all three, for a file that has no other chunk. Assumes nothing.
+-- In order: the file's own head; the format chunk; the data chunk's head; all three, for a file that has no other chunk; a rate. Assumes nothing.
 use Prim.Native.Nat.{ℕ, _+_, _*_}
 use mathlib.Core.List.{List, _++_}
+use lib.ListN.{length}
 use Rattle.layout.specs.Bytes.{littleBytes}
 use Rattle.chunks.specs.Chunks.{RIFF, WAVE, FORMAT, DATA}
 use Rattle.wave.specs.Wave.{FORMAT-BYTES}
@@ -21,6 +22,12 @@ formatChunk channels rate =
 unfoldable pub dataHead : ℕ → List ℕ
 dataHead n = littleBytes 4 DATA ++ littleBytes 4 n
 
--- before the n bytes of sound of a file: 24 bytes are the format chunk's, and 8 the data chunk's head
+-- before the n bytes of sound of a file that has these two chunks
 unfoldable pub soundHead : ℕ → ℕ → ℕ → List ℕ
-soundHead channels rate n = riffHead (24 + 8 + n) ++ formatChunk channels rate ++ dataHead n
+soundHead channels rate n =
+    let chunks = formatChunk channels rate ++ dataHead n in
+    riffHead (length chunks + n) ++ chunks
+
+-- the chip's frames a second, with all voices active and a clock of 16 MHz
+abbrev pub RATE : ℕ
+RATE = 31250

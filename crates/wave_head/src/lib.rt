@@ -3,6 +3,12 @@ ghost use mathlib.Core.Path.{_≡_};
 ghost use Prim.Native.Nat.{_*_, _≤_, _<_};
 ghost use Rattle.wave_head.specs.Head.{riffHead, formatChunk, dataHead};
 
+// The chip's frames a second, with all voices active and a clock of 16 MHz.
+pub const RATE: u32 = 31250;
+
+// The bytes of the format chunk and of the data chunk's head.
+pub const CHUNKS_BYTES: u32 = 32;
+
 // Before chunks that have so many bytes in all.
 pub fn riff_head(bytes: u32) -> [u8; 12]
     requires { ⌜ bytes ≤ 4294967291 ⌝ }

@@ -42,19 +42,19 @@ loop-less : tie.Need-loop-less Inv-loop μ-loop
 loop-less c =
     let p = c .before .before .before .before .before .before .before .before in
     let l = p .before .before .before .before .loop in
-    let s = p .before .before .before .before .before .before .before .before .before in
-    fewer (l .m) (s .args .memory .now) (s .args .commands .now) (l .command) (l .made) (l .part) (p .play .result) _ _ (l .inv .2) (p .before .before .before .loop-test .taken) (p .play .ensures .0)
+    let s = p .before .before .before .before .before .before .before .before .before .before in
+    fewer (l .m) (s .args .memory .now) (s .args .commands .now) (l .command) (l .made) (l .part) (p .play .result) _ _ (l .inv .2) (p .before .before .before .loop-test .taken) (p .play .ensures)
 
 loop-again : tie.Need-loop-again Inv-loop μ-loop
 loop-again c =
     let p = c .before .before .before .before .before .before .before .before in
-    (search needs, p .play .ensures .1 .0, search needs)
+    (search needs, p .play .ensures .within, search needs)
 
 put-requires : tie.Need-put-requires Inv-loop μ-loop
 put-requires c κs =
     let p = c .before .before .before .before in
     let l : length (p .play .last .1 .1 .1 .1 .1 .0) ≡ 65536 = search needs in
-    omega (arith, p .play .ensures .1 .1, l, p .before .before .before .before .loop .inv .2)
+    omega (arith, p .play .ensures .fits, l, p .before .before .before .before .loop .inv .2)
 
 pub render-spec : {M : Type 1} → statement M
 render-spec =
@@ -63,7 +63,8 @@ render-spec =
     Inv-loop
     μ-loop
     (λ c κs. search needs)
-    (λ c. (refl, omega arith, sym (c .large-buffer .ensures)))
+    (λ c κs. search needs)
+    (λ c. (refl, omega arith, sym (c .before .large-buffer .ensures)))
     (λ c. search needs)
     (λ c κs. c .before .before .before .loop .inv .1)
     (λ c. search needs)

@@ -7,10 +7,10 @@ use Rattle.score.proofs.obey.Statement.{statement}
 use Rattle.score.proofs.obey.Tie as tie
 
 abbrev Inv-loop : tie.InvT-loop
-Inv-loop m₀ memory out₀ c ask t7 counter₀ end m out counter = (length m ≡ length m₀) × (length out ≡ length out₀) × (counter ≤ end)
+Inv-loop m₀ memory c ask t7 counter₀ end m counter = (length m ≡ length m₀) × (counter ≤ end)
 
 abbrev μ-loop : tie.MeasureT-loop
-μ-loop m₀ memory out₀ c ask t7 counter₀ end m out counter = end - counter
+μ-loop m₀ memory c ask t7 counter₀ end m counter = end - counter
 
 pub obey-spec : {M : Type 1} → statement M
 obey-spec =
@@ -19,15 +19,15 @@ obey-spec =
     Inv-loop
     μ-loop
     (λ c. search needs)
+    (λ c. search needs)
     (λ c κs. search needs)
-    (λ c κs. search needs)
-    (λ c. search needs)
-    (λ c. search needs)
-    (λ c. search needs)
     (λ c. search needs)
     (λ c κs. search needs)
     (λ c. search needs)
     (λ c. search needs)
+    (λ c. search needs)
+    (λ c. search needs)
+    (λ c κs. search needs)
     (λ c. search needs)
     (λ c. search needs)
     (λ c. search needs)

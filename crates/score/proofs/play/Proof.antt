@@ -7,20 +7,21 @@ use Rattle.score.proofs.play.Statement.{statement}
 use Rattle.score.proofs.play.Tie as tie
 
 abbrev Inv-loop : tie.InvT-loop
-Inv-loop m₀ memory out₀ commands k₀ k-end m out k = (length m ≡ length m₀) × (length out ≡ length out₀) × (k-end ≡ length commands / 6) × (k ≤ k-end)
+Inv-loop m₀ memory commands k₀ k-end m k = (length m ≡ length m₀) × (k-end ≡ length commands / 6) × (k ≤ k-end)
 
 abbrev μ-loop : tie.MeasureT-loop
-μ-loop m₀ memory out₀ commands k₀ k-end m out k = k-end - k
+μ-loop m₀ memory commands k₀ k-end m k = k-end - k
 
 pub play-spec : {M : Type 1} → statement M
 play-spec =
     tie.close
-    (tie.spec Inv-loop μ-loop
+    (tie.spec
+    Inv-loop
+    μ-loop
     (λ c. search needs)
     (λ c. search needs)
     (λ c κs. search needs)
     (λ c κs. search needs)
-    (λ c. search needs)
     (λ c. search needs)
     (λ c. search needs)
     (λ c. search needs)

@@ -1,7 +1,6 @@
 -- `scores::make` meets its contract: what `perform` promises of the call, and the four bytes of a frame. Assumes nothing.
-use mathlib.Core.Path.{_≡_, sym, _∙_}
+use mathlib.Core.Path.{sym, _∙_}
 use borrow.Author.Needs.{needs}
-use lib.ListN.{length}
 use Rattle.scores.proofs.Making.{a-frame, another}
 use Rattle.scores.proofs.make.Statement.{statement}
 use Rattle.scores.proofs.make.Tie as tie
@@ -14,9 +13,8 @@ returns c =
     let refused = asked .before in
     let done = refused .before .before .before .before in
     let s = done .before .before .before .before .before .before in
-    let l : length (done .perform .last .1 .1 .1 .0) ≡ 12 = search needs in
     a-frame (s .args .m .now) (s .args .memory .now) (s .args .ask) (s .args .sound .now) (s .args .at) (done .perform .ensures) (refused .refusal .ensures)
-    (sym (asked .is-frame .ensures) ∙ bytes .before .before .if1 .taken) l (bytes .sample-bytes .result) (bytes .sample-bytes .ensures) (put .put4 .ensures)
+    (sym (asked .is-frame .ensures) ∙ bytes .before .before .if1 .taken) (bytes .sample-bytes .result) (bytes .sample-bytes .ensures) (put .put4 .ensures)
 
 returns-2 : tie.Need-returns-2
 returns-2 c =

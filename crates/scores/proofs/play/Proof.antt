@@ -13,6 +13,7 @@ use Rattle.machine.proofs.Valid.{both}
 use Rattle.calls.specs.Calls.{Call}
 use Rattle.scores.specs.Score.{commandNo, commandCount}
 use Rattle.scores.specs.Playing.{leftFrom}
+use Rattle.scores.proofs.Making.{call-long}
 use Rattle.scores.proofs.Playing.{Going, begins, next, at-most-one, one-call, one-command, left-none, over, leaves-end, counts-end, refuses-end, hears-end, goes-end}
 use Rattle.scores.specs.declared.Command.{Command}
 use Rattle.scores.proofs.play.Statement.{statement}
@@ -62,7 +63,7 @@ loop-again c =
     let h = on i in
     let q = one-call (s .args .memory .now) (s .args .commands .now) (l .k) (l .own) (ca .command-at .result) (ca .command-at .ensures) (h .1) (t .if1 .taken) in
     let g = subst (λ (cs : List Call). Going (length (s .args .sound .now) / 4) (leftFrom (s .args .memory .now) (s .args .commands .now) (s .args .command) (s .args .made)) (s .args .m .now) (s .args .sound .now) cs (l .m) (l .sound) (l .calls) (l .frames) (l .refused)) q (l .inv .0) in
-    let n = next g (h .0) (omega arith) (mk .make .ensures) in
+    let n = next g (h .0) (omega arith) (call-long (ca .command-at .result .ask) (s .args .memory .now)) (mk .make .ensures) in
     let o : l .own < commandNo (s .args .commands .now) (l .k) .times = subst (λ (x : Command). l .own < x .times) (ca .command-at .ensures) (t .if1 .taken) in
     (n, omega arith, omega (arith, h .0), search needs, n .long, refl, refl)
 
@@ -87,18 +88,18 @@ returns c =
     let none : l .calls < room → left ≡ [] =
     λ h. left-none (s .args .memory .now) commands (l .k) (l .own) (ltb-false _ _ (one-is-over (ltb (l .calls) room) (ltb (l .k) (length commands / 6)) (c .loop-test .left) (lt-ltb (l .calls) room h))) in
     let o = over room (l .calls) left none in
-    let g = l .inv .0 in (
-      record {
-        leaves = leaves-end g (o .0) (o .1);
-        counts = counts-end g (o .0) (o .1);
-        refuses = refuses-end g (o .0) (o .1);
-        hears = hears-end g (o .0) (o .1);
-        stays = g .stays;
-        goes = goes-end g (o .0) (o .1);
-        full = λ h. omega (arith, g .sum, ltb-false (l .calls) room (other-is-over (ltb (l .calls) room) (ltb (l .k) (length commands / 6)) (c .loop-test .left) (lt-ltb (l .k) (length commands / 6) h)));
-      },
-      (l .inv .1, omega (arith, g .frames-few, l .inv .2)),
-    )
+    let g = l .inv .0 in
+    record {
+      leaves = leaves-end g (o .0) (o .1);
+      counts = counts-end g (o .0) (o .1);
+      refuses = refuses-end g (o .0) (o .1);
+      hears = hears-end g (o .0) (o .1);
+      stays = g .stays;
+      goes = goes-end g (o .0) (o .1);
+      full = λ h. omega (arith, g .sum, ltb-false (l .calls) room (other-is-over (ltb (l .calls) room) (ltb (l .k) (length commands / 6)) (c .loop-test .left) (lt-ltb (l .k) (length commands / 6) h)));
+      fits = omega (arith, g .frames-few, l .inv .2);
+      within = l .inv .1;
+    }
 
 pub play-spec : {M : Type 1} → statement M
 play-spec =
