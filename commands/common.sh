@@ -5,6 +5,7 @@
 #   build          the program, proved and no older than its sources
 #   run            the program, under the kit's own emulator where the processor is not an x86-64
 #   put FILE       a file to standard output
+#   has_room       fails where no file can be written in the folder
 # The program is asked for by `rt check`, which proves and builds it anew where a source has changed.
 
 fail() {
@@ -19,6 +20,11 @@ trap 'rm -rf "$work"' EXIT
 trap 'exit 130' INT
 trap 'exit 143' HUP TERM
 
+has_room() {
+    head -c 65536 /dev/zero 2> "$work/error" > "$work/room" || fail "there is no room for files in ${TMPDIR:-/tmp}"
+    rm "$work/room"
+}
+
 take() {
     most=$1
     shift
@@ -28,7 +34,10 @@ take() {
         [ -r "$1" ] || fail "$1 cannot be read"
         exec < "$1"
     fi
-    head -c "$most" > "$work/input" 2> "$work/error" || fail "${1-standard input} cannot be read"
+    head -c "$most" > "$work/input" 2> "$work/error" || {
+        has_room
+        fail "${1-standard input} cannot be read"
+    }
 }
 
 build() {
@@ -36,7 +45,9 @@ build() {
     for folder in "$here/target" "$here/target/log" "$here/target/bin"; do
         [ ! -e "$folder" ] || [ -w "$folder" ] || fail "$folder cannot be written, so it is not known whether the program is new"
     done
-    [ -x "$program" ] || echo "$name: the program is proved and built first" >&2
+    if [ ! -x "$program" ] || [ -n "$(find "$here/crates" -name '*.rt' -newer "$program")" ]; then
+        echo "$name: the program is proved and built first" >&2
+    fi
     (cd "$here" && rt check "$crate" < /dev/null > "$work/log" 2>&1) || {
         cat "$work/log" >&2
         fail "the program could not be built"

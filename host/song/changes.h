@@ -7,7 +7,8 @@
 
 #include <stdint.h>
 
-/* Time goes by ticks, each as long as one ramp can be: 15 milliseconds. */
+/* Time goes by ticks of about 15 milliseconds: where the song is at its speed,
+   one count of a ramp can fill a tick. */
 #define TICK   480u /* frames, where the song is at its speed */
 #define EIGHTH 15u  /* ticks */
 #define BAR    (6u * EIGHTH)

@@ -39,7 +39,7 @@ static uint32_t turn_at(uint32_t place, uint32_t wave)
     return (uint32_t)(((uint64_t)place * WHOLE_SAMPLE << 32) / wave);
 }
 
-/* As great as FULL at its greatest, and at a whole number. */
+/* Scaled so that the greatest becomes FULL, and cut to a whole number. */
 static int16_t sample_of(int64_t value, int64_t greatest)
 {
     return (int16_t)(value * FULL / greatest);

@@ -13,7 +13,7 @@
 #define SIXTEENTH    (WHOLE_SAMPLE / 16u)
 
 /* Each sound begins at a multiple of 32 words: as START and ACCUM have it, its
-   place then has one byte that is not 0. */
+   place then has at most one byte that is not 0. */
 #define PLUCK   0u
 #define NOISE   2304u
 #define THUMP   3200u

@@ -88,7 +88,7 @@ static const struct tone theme_tones[] = {
     { E5, 3 }, { Cs5, 2 }, { REST, 1 },
 };
 
-/* Under the theme when it comes back, in sixths and thirds. */
+/* Under the theme when it comes back, mostly in sixths and thirds. */
 static const struct tone second_tones[] = {
     { Fs4, 3 }, { E4, 1 }, { Fs4, 1 }, { A4, 1 },
     { A4, 3 }, { Cs5, 2 }, { A4, 1 },
@@ -150,8 +150,8 @@ static void play_plucks(uint32_t tick, const struct bar *bar,
     }
 }
 
-/* The highest notes once more, a sixteenth and an eighth later: an octave
-   higher, softer, and across the room. */
+/* The third note and the last once more, a sixteenth and an eighth later: an
+   octave higher, softer, and across the room. */
 static void play_echoes(uint32_t tick, const struct bar *bar,
                         const char *order)
 {
@@ -402,16 +402,16 @@ static void play_end(uint32_t tick)
 #define MIDDLE (THEME + THEME_BARS)
 #define RETURN (MIDDLE + THEME_BARS)
 #define CODA   (RETURN + THEME_BARS)
-#define END    (CODA + 3u)
+#define LAST   (CODA + 3u)
 
 /* The song ends more slowly than it began. */
 static const struct tempo tempos[] = {
     { 0, TICK },
     { (CODA + 1u) * BAR, 495 },
     { (CODA + 2u) * BAR, 530 },
-    { END * BAR, 590 },
-    { (END + 1u) * BAR, 640 },
-    { (END + 4u) * BAR + 6u, 0 },
+    { LAST * BAR, 590 },
+    { (LAST + 1u) * BAR, 640 },
+    { (LAST + 4u) * BAR + 6u, 0 },
 };
 
 int main(void)
@@ -423,7 +423,7 @@ int main(void)
     play_middle(MIDDLE * BAR);
     play_return(RETURN * BAR);
     play_coda(CODA * BAR);
-    play_end(END * BAR);
+    play_end(LAST * BAR);
     write_score(tempos);
     return 0;
 }

@@ -1,6 +1,6 @@
 /*
- * Included before an example: every call of the library becomes the model's, so
- * that what the example prints is what the rules say.
+ * Included before a host's source: every call of the library becomes the
+ * model's, so that what the host prints is what the rules say.
  */
 #define otto_reset    reference_reset
 #define otto_write    reference_write

@@ -34,6 +34,20 @@ refuses() {
     result $good "$what"
 }
 
+# tells WORD..: each stands in `expected`.
+tells() {
+    for word; do
+        good=0
+        grep -q -- "$word" expected || good=1
+        : > error
+        result $good "there is no $word in it"
+    done
+}
+
+# without_room COMMAND..: no file may have more than a few hundred bytes.
+without_room() { (ulimit -f 1 && "$@"); }
+no_room="there is no room for files in ${TMPDIR:-/tmp}"
+
 # How many trials there were; fails where one did.
 end() {
     echo "$1: $tried trials, $failed failed"
