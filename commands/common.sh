@@ -45,9 +45,7 @@ build() {
     for folder in "$here/target" "$here/target/log" "$here/target/bin"; do
         [ ! -e "$folder" ] || [ -w "$folder" ] || fail "$folder cannot be written, so it is not known whether the program is new"
     done
-    if [ ! -x "$program" ] || [ -n "$(find "$here/crates" -name '*.rt' -newer "$program")" ]; then
-        echo "$name: the program is proved and built first" >&2
-    fi
+    [ -x "$program" ] || echo "$name: the program is proved and built first" >&2
     (cd "$here" && rt check "$crate" < /dev/null > "$work/log" 2>&1) || {
         cat "$work/log" >&2
         fail "the program could not be built"
