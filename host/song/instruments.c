@@ -27,12 +27,12 @@ static uint32_t step_for(uint32_t note, uint32_t wave)
     return (uint32_t)((octave_8[note % OCTAVE] * wave + whole / 2) / whole);
 }
 
-/* Of a volume 0x1000 is 6 dB. A place is how many eighths of that a sound is
+/* Of a volume 0x1000 is 6 dB. A pan is how many eighths of that a sound is
    louder on the right, and softer on the left, than in the middle. */
 static void set_volumes(uint32_t tick, uint32_t voice, uint32_t level,
-                        int32_t place)
+                        int32_t pan)
 {
-    int32_t aside = 0x200 * place;
+    int32_t aside = 0x200 * pan;
 
     set(tick, voice, VOICE_LVOL, (uint32_t)((int32_t)level - aside));
     set(tick, voice, VOICE_RVOL, (uint32_t)((int32_t)level + aside));
@@ -118,7 +118,7 @@ static void set_up_plucks(void)
 {
     static const struct {
         uint32_t level;
-        int32_t place;
+        int32_t pan;
     } voices[ECHO_VOICES + PLUCK_VOICES] = {
         { 0xD000, 5 }, { 0xD000, -5 },
         { 0xE200, -2 }, { 0xDC00, 1 }, { 0xDD00, 4 },
@@ -131,7 +131,7 @@ static void set_up_plucks(void)
 
         set_up(voice, PLUCK, AT(PLUCK_WORDS - 1u), OPEN, LET_PASS);
         set(0, voice, VOICE_K1RAMP, ramp(-110));
-        set_volumes(0, voice, voices[i].level, voices[i].place);
+        set_volumes(0, voice, voices[i].level, voices[i].pan);
     }
 }
 
@@ -224,7 +224,7 @@ void bass_last(uint32_t tick, uint32_t note)
 static const struct sound {
     uint32_t voice, word, words;
     uint32_t step, level;
-    int32_t place;
+    int32_t pan;
     uint32_t k1, k2, cr;
 } drums[] = {
     [KICK] = { KICK_VOICE, THUMP, THUMP_WORDS, 96, 0xE600, 0,
@@ -248,7 +248,7 @@ static void set_up_drums(void)
 
         set_up(d->voice, d->word, AT(d->words - 1u), d->k1, d->k2);
         set(0, d->voice, VOICE_FC, d->step);
-        set_volumes(0, d->voice, d->level, d->place);
+        set_volumes(0, d->voice, d->level, d->pan);
     }
 }
 
@@ -302,7 +302,7 @@ void lead_on(uint32_t tick, const struct part *part, uint32_t level)
         uint32_t voice = part->first + i;
 
         set_volumes(tick, voice, level - 0x1400u * i - ATTACK,
-                    i == 0 ? part->place : -3 * part->place);
+                    i == 0 ? part->pan : -3 * part->pan);
         set(tick, voice, VOICE_K1, part->brightness - ATTACK);
         set(tick, voice, VOICE_K1RAMP, ramp(ATTACK_STEP));
         set_volume_ramps(tick, voice, ATTACK_STEP);
@@ -422,7 +422,7 @@ void chord_off(uint32_t tick)
 /* Each note is on the loop of its name, which is exactly in tune. */
 static const struct held {
     uint32_t note, word, wave;
-    int32_t place;
+    int32_t pan;
 } held[HELD_NOTES] = {
     { D3, HELD_D, HELD_D_WAVE, 0 },
     { A3, HELD_A, HELD_A_WAVE, -5 },
@@ -443,7 +443,7 @@ static void set_up_held(void)
 
 void held_on(uint32_t tick, uint32_t i, uint32_t level)
 {
-    set_volumes(tick, HELD_VOICE + i, level, held[i].place);
+    set_volumes(tick, HELD_VOICE + i, level, held[i].pan);
     set(tick, HELD_VOICE + i, VOICE_ACCUM, AT(held[i].word));
     set(tick, HELD_VOICE + i, VOICE_CR, HELD_CR);
 }

@@ -39,7 +39,7 @@ struct part {
     uint32_t first, voices;
     uint32_t level, louder;
     uint32_t brightness;
-    int32_t place;
+    int32_t pan;
 };
 
 #define LEAD_VOICE   15u /* and 16 */

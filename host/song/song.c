@@ -129,12 +129,12 @@ static const struct tone coda_tones[] = {
 
 /* ==== the arrangement ===================================================== */
 
-/* The note at a place of so many in the bar. */
-static uint32_t broken(const struct bar *bar, uint32_t place,
+/* The note of a number among so many in the bar. */
+static uint32_t broken(const struct bar *bar, uint32_t number,
                        const char *order)
 {
-    const uint8_t *chord = bar->chord[2u * place / (uint32_t)strlen(order)];
-    uint32_t i = (uint32_t)(order[place] - '0');
+    const uint8_t *chord = bar->chord[2u * number / (uint32_t)strlen(order)];
+    uint32_t i = (uint32_t)(order[number] - '0');
 
     return chord[i % CHORD_NOTES] + OCTAVE * (i / CHORD_NOTES);
 }
@@ -252,19 +252,19 @@ static void play_melody(uint32_t tick, const struct part *part,
 
 static const struct part lead = {
     .first = LEAD_VOICE, .voices = 2, .level = 0xD300, .louder = 0x100,
-    .brightness = 0x6800, .place = 1
+    .brightness = 0x6800, .pan = 1
 };
 static const struct part lead_high = {
     .first = LEAD_VOICE, .voices = 2, .level = 0xD400, .louder = 0x600,
-    .brightness = 0x9000, .place = 1
+    .brightness = 0x9000, .pan = 1
 };
 static const struct part lead_full = {
     .first = LEAD_VOICE, .voices = 2, .level = 0xD600, .louder = 0,
-    .brightness = 0x7800, .place = 2
+    .brightness = 0x7800, .pan = 2
 };
 static const struct part second = {
     .first = SECOND_VOICE, .voices = 1, .level = 0xD000, .louder = 0,
-    .brightness = 0x6800, .place = -4
+    .brightness = 0x6800, .pan = -4
 };
 
 /* Plucked strings over the held chord, which has no third yet; then the bass
