@@ -1,21 +1,15 @@
 /*
- * Changes of registers, gathered, sorted and written as a score: sample memory
- * and then commands of six bytes, which are a kind, a number of four bytes and
- * one byte. A score has at most 65,536 bytes, so a command that changes nothing
- * is left out.
+ * Changes of registers, gathered, sorted and written as a score (commands.h).
+ * What changes nothing is left out, and commands that stand there already are
+ * repeated.
  */
 #include <stdio.h>
 #include <stdlib.h>
 #include <string.h>
 
 #include "changes.h"
+#include "commands.h"
 #include "samples.h"
-
-enum kind { RESET = 0, WRITE = 1, FRAMES = 6 };
-
-#define MOST_BYTES    65536u
-#define COMMAND_BYTES 6u
-#define MOST_COMMANDS ((MOST_BYTES - 2u * MEMORY_WORDS) / COMMAND_BYTES)
 
 /* A change of a register, by the number of its word in the voice. */
 struct change {
@@ -23,9 +17,8 @@ struct change {
     uint32_t order; /* of two changes of one register the later one counts */
 };
 
-static struct change changes[2u * MOST_COMMANDS];
+static struct change changes[MOST_COMMANDS];
 static uint32_t change_count;
-static uint32_t command_count;
 
 static void give_up(const char *why)
 {
@@ -73,21 +66,21 @@ static int is_same_register(const struct change *a, const struct change *b)
     return a->tick == b->tick && a->voice == b->voice && a->word == b->word;
 }
 
-/* ---- as bytes ------------------------------------------------------------ */
+/* ---- as commands --------------------------------------------------------- */
 
-static void put_number(uint32_t number, uint32_t bytes)
-{
-    while (bytes > 0) {
-        bytes -= 1;
-        putchar((int)(number >> (8u * bytes) & 0xFFu));
-    }
-}
+struct command {
+    uint32_t kind, number, byte;
+};
+
+static struct command commands[MOST_COMMANDS];
+static uint32_t command_count;
 
 static void command(enum kind kind, uint32_t number, uint32_t byte)
 {
-    put_number((uint32_t)kind, 1);
-    put_number(number, 4);
-    put_number(byte, 1);
+    if (command_count == MOST_COMMANDS) {
+        give_up("more commands than a score may have");
+    }
+    commands[command_count] = (struct command){ kind, number, byte };
     command_count += 1;
 }
 
@@ -215,8 +208,12 @@ static uint32_t frames_before(const struct tempo *tempo, uint32_t tick)
 static void write_frames(const struct tempo *tempos, uint32_t from,
                          uint32_t to)
 {
-    command(FRAMES, frames_before(tempos, to) - frames_before(tempos, from),
-            0);
+    uint32_t frames = frames_before(tempos, to) - frames_before(tempos, from);
+
+    for (; frames > MOST_NUMBER; frames -= MOST_NUMBER) {
+        command(FRAMES, MOST_NUMBER, 0);
+    }
+    command(FRAMES, frames, 0);
 }
 
 static uint32_t end_of(const struct tempo *tempo)
@@ -227,14 +224,70 @@ static uint32_t end_of(const struct tempo *tempo)
     return tempo->tick;
 }
 
-void write_score(const struct tempo *tempos)
+/* ---- as bytes ------------------------------------------------------------ */
+
+static int is_same_command(const struct command *a, const struct command *b)
+{
+    return a->kind == b->kind && a->number == b->number && a->byte == b->byte;
+}
+
+/* How many commands from one on are the same as those from an earlier one on,
+   which end before it. */
+static uint32_t same_from(uint32_t earlier, uint32_t one)
+{
+    uint32_t most = least(least(one - earlier, command_count - one),
+                          MOST_REPEATED);
+    uint32_t same = 0;
+
+    while (same < most && is_same_command(&commands[earlier + same],
+                                          &commands[one + same])) {
+        same += 1;
+    }
+    return same;
+}
+
+/* The most that a repeat can stand for from one command on, and how far back
+   they are. */
+static uint32_t longest_repeat(uint32_t one, uint32_t *back)
+{
+    uint32_t longest = 0;
+    uint32_t distance;
+
+    for (distance = 1; distance <= least(one, MOST_NUMBER); distance++) {
+        uint32_t same = same_from(one - distance, one);
+
+        if (same > longest) {
+            longest = same;
+            *back = distance;
+        }
+    }
+    return longest;
+}
+
+/* A repeat of one command would be no shorter than the command. */
+static uint32_t write_commands(void)
+{
+    uint32_t written = 0;
+    uint32_t i, more, back = 0;
+
+    for (i = 0; i < command_count; i += more, written++) {
+        more = longest_repeat(i, &back);
+        if (more > 1) {
+            put_command(REPEAT, back, more);
+        } else {
+            more = 1;
+            put_command(commands[i].kind, commands[i].number,
+                        commands[i].byte);
+        }
+    }
+    return written;
+}
+
+static void gather_commands(const struct tempo *tempos)
 {
     uint32_t tick = 0;
     uint32_t i;
 
-    for (i = 0; i < MEMORY_WORDS; i++) {
-        put_number(memory[i], 2);
-    }
     qsort(changes, change_count, sizeof changes[0], in_order);
     write_reset();
     for (i = 0; i < change_count; i++) {
@@ -250,8 +303,18 @@ void write_score(const struct tempo *tempos)
         write_change(change);
     }
     write_frames(tempos, tick, end_of(tempos));
-    if (command_count > MOST_COMMANDS) {
-        give_up("more commands than a score has room for");
+}
+
+void write_score(const struct tempo *tempos)
+{
+    uint32_t i;
+
+    for (i = 0; i < SCORE_WORDS; i++) {
+        put_number(memory[i], 2);
+    }
+    gather_commands(tempos);
+    if (SCORE_MEMORY + COMMAND_BYTES * write_commands() > MOST_BYTES) {
+        give_up("more bytes than a score may have");
     }
     if (fflush(stdout) != 0 || ferror(stdout)) {
         give_up("the score cannot be written");

@@ -10,8 +10,8 @@
 #define ONE      (INT64_C(1) << 30)
 #define PARTIALS 12u
 
-uint16_t memory[MEMORY_WORDS];
-static int64_t sound[MEMORY_WORDS]; /* one that is being made */
+uint16_t memory[SCORE_WORDS];
+static int64_t sound[SCORE_WORDS]; /* one that is being made */
 
 /* ---- sines --------------------------------------------------------------- */
 

@@ -5,12 +5,12 @@
 #ifndef SONG_SAMPLES_H
 #define SONG_SAMPLES_H
 
+#include "commands.h"
 #include "reference.h"
 
 #define LENGTH_OF(table) ((uint32_t)(sizeof(table) / sizeof((table)[0])))
 
-#define MEMORY_WORDS 4096u
-#define SIXTEENTH    (WHOLE_SAMPLE / 16u)
+#define SIXTEENTH (WHOLE_SAMPLE / 16u)
 
 /* Each sound begins at a multiple of 32 words: as START and ACCUM have it, its
    place then has at most one byte that is not 0. */
@@ -43,7 +43,7 @@
 #define HELD_A_WAVE  (799u * SIXTEENTH)  /* 49 15/16 */
 #define HELD_FS_WAVE (807u * SIXTEENTH)  /* 50 7/16 */
 
-extern uint16_t memory[MEMORY_WORDS];
+extern uint16_t memory[SCORE_WORDS];
 
 void make_memory(void);
 

@@ -3,7 +3,8 @@
  * the bar, for the voices of the chip.
  *
  *   samples.c       the sample memory, which is computed
- *   changes.c       changes of registers, and how they become a score
+ *   commands.c      the commands of a score, as bytes
+ *   changes.c       changes of registers, and how they become commands
  *   instruments.c   a note of each instrument, as changes of registers
  *   song.c          the tune, in tables, and the arrangement: who plays what
  *

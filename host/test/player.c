@@ -2,11 +2,9 @@
  * player < SCORE > WAVE: plays a score by the public calls and writes what is
  * heard as a WAVE file.
  *
- * A score is 4,096 words of sample memory, high byte first, and commands of
- * six bytes: a kind, a number of four bytes, high byte first, and one byte.
- * Each frame gives one sample for the left and one for the right, 16 bits
- * each, at 31,250 a second: the sum of the six channels' sides, 20 bits each,
- * divided by 16.
+ * What a score is, commands.h says. Each frame gives one sample for the left
+ * and one for the right, 16 bits each, at 31,250 a second: the sum of the six
+ * channels' sides, 20 bits each, divided by 16.
  *
  * A score that is no score gives one line on standard error and no sound. Else
  * the one line there says how many frames were played, how loud the loudest
@@ -16,25 +14,21 @@
 #include <stdio.h>
 #include <string.h>
 
+#include "commands.h"
 #include "otto.h"
 
-enum kind { RESET, WRITE, READ, POT, FRAME, WAITING, FRAMES, KINDS };
-
-#define RATE          31250u
-#define COMMAND_BYTES 6u
-#define MEMORY_WORDS  4096u
-#define MEMORY_BYTES  (2u * MEMORY_WORDS)
-#define MOST_BYTES    65536u
-#define SIDES         2u
-#define SAMPLE_BYTES  4u /* both sides */
-#define HEADER_BYTES  44u
+#define RATE         31250u
+#define SIDES        2u
+#define SAMPLE_BYTES 4u /* both sides */
+#define HEADER_BYTES 44u
 
 /* A WAVE file counts its bytes, all but the first eight, in 32 bits. */
 #define MOST_FRAMES ((0xFFFFFFFFu - (HEADER_BYTES - 8u)) / SAMPLE_BYTES)
 
 static unsigned char score[MOST_BYTES + 1]; /* one more tells a longer one */
-static size_t score_bytes;
-static uint16_t memory[MEMORY_WORDS];
+static unsigned char commands[MOST_COMMANDS * COMMAND_BYTES]; /* in full */
+static size_t command_count;
+static uint16_t memory[SCORE_WORDS];
 static uint32_t machine[OTTO_RECORD_WORDS];
 
 static uint32_t frames;  /* that the score has */
@@ -43,21 +37,10 @@ static uint32_t refused; /* calls */
 
 /* ==== the score =========================================================== */
 
-static uint32_t number_of(const unsigned char *bytes, uint32_t count)
-{
-    uint32_t number = 0;
-    uint32_t place;
-
-    for (place = 0; place < count; place++) {
-        number = 256u * number + bytes[place];
-    }
-    return number;
-}
-
 static uint32_t frames_of(const unsigned char *command)
 {
     if (command[0] == FRAMES) {
-        return number_of(command + 1, 4);
+        return number_in(command);
     }
     return command[0] == FRAME ? 1u : 0u;
 }
@@ -65,14 +48,17 @@ static uint32_t frames_of(const unsigned char *command)
 /* Counts the frames. Says what is wrong with the commands, or NULL. */
 static const char *look_at_commands(void)
 {
-    uint64_t all = 0; /* fewer than 2^14 commands of fewer than 2^32 */
+    uint64_t all = 0; /* at most 2^16 commands of fewer than 2^16 */
     size_t place;
 
-    for (place = MEMORY_BYTES; place < score_bytes; place += COMMAND_BYTES) {
-        if (score[place] >= KINDS) {
-            return "a command of a kind that there is not";
+    for (place = 0; place < command_count; place++) {
+        const unsigned char *command = commands + place * COMMAND_BYTES;
+
+        if (command[0] >= REPEAT) {
+            return "a command of a kind that there is not, or a repeat of "
+                   "commands that are not there";
         }
-        all += frames_of(score + place);
+        all += frames_of(command);
     }
     if (all > MOST_FRAMES) {
         return "more frames than a WAVE file holds";
@@ -84,25 +70,32 @@ static const char *look_at_commands(void)
 /* Nothing may be written before the whole score is known to be right. */
 static const char *look_at_score(void)
 {
-    score_bytes = fread(score, 1, sizeof score, stdin);
+    size_t bytes = fread(score, 1, sizeof score, stdin);
+
     if (ferror(stdin)) {
         return "the score cannot be read";
     }
-    if (score_bytes > MOST_BYTES) {
+    if (bytes > MOST_BYTES) {
         return "a score of more than 65536 bytes";
     }
-    if (score_bytes < MEMORY_BYTES) {
+    if (bytes < SCORE_MEMORY) {
         return "a score that ends within the sample memory";
     }
-    if ((score_bytes - MEMORY_BYTES) % COMMAND_BYTES != 0) {
+    if ((bytes - SCORE_MEMORY) % COMMAND_BYTES != 0) {
         return "a score that ends within a command";
+    }
+    command_count = put_in_full(commands, score + SCORE_MEMORY,
+                                (bytes - SCORE_MEMORY) / COMMAND_BYTES);
+    if (command_count > MOST_COMMANDS) {
+        return "a score of more than 65536 commands in full";
     }
     return look_at_commands();
 }
 
 /* ==== the WAVE file ======================================================= */
 
-static void put_number(uint32_t value, uint32_t bytes)
+/* The low byte first, as a WAVE file has its numbers. */
+static void put_little(uint32_t value, uint32_t bytes)
 {
     uint32_t byte;
 
@@ -114,17 +107,17 @@ static void put_number(uint32_t value, uint32_t bytes)
 static void put_header(void)
 {
     fputs("RIFF", stdout);
-    put_number(HEADER_BYTES - 8u + SAMPLE_BYTES * frames, 4);
+    put_little(HEADER_BYTES - 8u + SAMPLE_BYTES * frames, 4);
     fputs("WAVEfmt ", stdout);
-    put_number(16, 4); /* bytes, to the name of the data */
-    put_number(1, 2);  /* plain samples */
-    put_number(SIDES, 2);
-    put_number(RATE, 4);
-    put_number(SAMPLE_BYTES * RATE, 4);
-    put_number(SAMPLE_BYTES, 2);
-    put_number(16, 2); /* bits */
+    put_little(16, 4); /* bytes, to the name of the data */
+    put_little(1, 2);  /* plain samples */
+    put_little(SIDES, 2);
+    put_little(RATE, 4);
+    put_little(SAMPLE_BYTES * RATE, 4);
+    put_little(SAMPLE_BYTES, 2);
+    put_little(16, 2); /* bits */
     fputs("data", stdout);
-    put_number(SAMPLE_BYTES * frames, 4);
+    put_little(SAMPLE_BYTES * frames, 4);
 }
 
 /* A quotient that is rounded down, which C's is not below 0. */
@@ -141,7 +134,7 @@ static void put_sample(int32_t sum)
     if (sample > loudest || -sample > loudest) {
         loudest = sample < 0 ? -sample : sample;
     }
-    put_number((uint32_t)sample, 2);
+    put_little((uint32_t)sample, 2);
 }
 
 /* ==== playing ============================================================= */
@@ -161,7 +154,7 @@ static void play_frame(void)
     uint32_t missing;
     uint32_t place;
 
-    answered(otto_frame(machine, OTTO_RECORD_WORDS, memory, MEMORY_WORDS,
+    answered(otto_frame(machine, OTTO_RECORD_WORDS, memory, SCORE_WORDS,
                         output, OTTO_OUTPUT_VALUES, &missing));
     for (place = 0; place < OTTO_OUTPUT_VALUES; place++) {
         sums[place % SIDES] += output[place];
@@ -180,7 +173,7 @@ static void play_frames(uint32_t count)
 
 static void play_command(const unsigned char *command)
 {
-    uint32_t number = number_of(command + 1, 4);
+    uint32_t number = number_in(command);
     uint32_t mask;
     uint8_t byte;
 
@@ -189,7 +182,7 @@ static void play_command(const unsigned char *command)
         answered(otto_reset(machine, OTTO_RECORD_WORDS));
         break;
     case WRITE:
-        answered(otto_write(machine, OTTO_RECORD_WORDS, number, command[5]));
+        answered(otto_write(machine, OTTO_RECORD_WORDS, number, command[3]));
         break;
     case READ:
         answered(otto_read(machine, OTTO_RECORD_WORDS, number, &byte));
@@ -209,13 +202,13 @@ static void play(void)
 {
     size_t place;
 
-    for (place = 0; place < MEMORY_WORDS; place++) {
+    for (place = 0; place < SCORE_WORDS; place++) {
         memory[place] = (uint16_t)number_of(score + 2 * place, 2);
     }
     /* No valid record: what is asked before a reset is refused. */
     memset(machine, 0xFF, sizeof machine);
-    for (place = MEMORY_BYTES; place < score_bytes; place += COMMAND_BYTES) {
-        play_command(score + place);
+    for (place = 0; place < command_count; place++) {
+        play_command(commands + place * COMMAND_BYTES);
     }
 }
 

@@ -1,7 +1,6 @@
 /*
  * The scores that the programs crates/score and crates/play play, and what the
- * first of them has to print. A score is 4,096 words of sample memory and then
- * commands of six bytes, which are a kind, a number of four bytes and one byte.
+ * first of them has to print. What a score is, commands.h says.
  *
  *   score make          writes the score of crates/score
  *   score short         writes that of crates/play, which has few frames; what
@@ -16,24 +15,11 @@
 #include <stdio.h>
 #include <string.h>
 
+#include "commands.h"
 #include "reference.h"
 
-/* From NO_CALL to LAST_KIND, a kind is that of no call. */
-enum kind {
-    RESET,
-    WRITE,
-    READ,
-    POT,
-    FRAME,
-    WAITING,
-    FRAMES,
-    NO_CALL,
-    LAST_KIND = 255
-};
-
-#define COMMAND_BYTES 6u
-#define MEMORY_WORDS  4096u
-#define MOST_BYTES    65536u
+#define MEMORY_WORDS SCORE_WORDS
+#define LAST_KIND    255u
 
 /* ==== the sample memory =================================================== */
 
@@ -185,30 +171,15 @@ static const uint32_t ends[][SET_WORDS] = {
 
 /* ==== commands ============================================================ */
 
-static void put_number(uint32_t number, uint32_t bytes)
-{
-    while (bytes > 0) {
-        bytes -= 1;
-        putchar((int)(number >> (8u * bytes) & 0xFFu));
-    }
-}
-
-static void command(enum kind kind, uint32_t number, uint32_t byte)
-{
-    put_number((uint32_t)kind, 1);
-    put_number(number, 4);
-    put_number(byte, 1);
-}
-
 static void who_waits(void)
 {
-    command(WAITING, 0, 0);
+    put_command(WAITING, 0, 0);
 }
 
 static void frames(uint32_t count)
 {
     while (count > 0) {
-        command(FRAME, 0, 0);
+        put_command(FRAME, 0, 0);
         count -= 1;
     }
 }
@@ -230,7 +201,8 @@ static void put_register(uint32_t number, uint32_t value)
     uint32_t byte;
 
     for (byte = 0; byte < 4; byte++) {
-        command(WRITE, 4 * number + byte, value >> (24 - 8 * byte) & 0xFFu);
+        put_command(WRITE, 4 * number + byte,
+                    value >> (24 - 8 * byte) & 0xFFu);
     }
 }
 
@@ -239,7 +211,7 @@ static void get_register(uint32_t number)
     uint32_t byte;
 
     for (byte = 0; byte < 4; byte++) {
-        command(READ, 4 * number + byte, 0);
+        put_command(READ, 4 * number + byte, 0);
     }
 }
 
@@ -294,26 +266,31 @@ static void set_control(uint32_t page, uint32_t cr)
 
 /* ==== the passages of the score =========================================== */
 
-/* Nothing is done before the reset. */
+/* Nothing is done before the reset. A repeat that goes back past the first
+   command is none, and stays none where it is repeated; one that goes back to
+   the first is one. */
 static void play_refused(void)
 {
-    command(WRITE, 4 * PAGE + 3, 5);
-    command(READ, 4 * IRQV, 0);
-    command(POT, 300, 0);
-    command(FRAME, 0, 0);
-    command(FRAMES, 2, 0);
+    put_command(WRITE, 4 * PAGE + 3, 5);
+    put_command(REPEAT, 2, 1);
+    put_command(REPEAT, 1, 1);
+    put_command(REPEAT, 3, 1);
+    put_command(READ, 4 * IRQV, 0);
+    put_command(POT, 300, 0);
+    put_command(FRAME, 0, 0);
+    put_command(FRAMES, 2, 0);
     who_waits();
-    command(RESET, 0, 0);
+    put_command(RESET, 0, 0);
     who_waits();
-    command(FRAME, 0, 0);
-    command(READ, 64, 0);
-    command(WRITE, 64, 1);
-    command(WRITE, 0xFFFFFFFFu, 1);
-    command(POT, 1024, 0);
-    command(NO_CALL, 0, 0);
-    command(LAST_KIND, 0xFFFFFFFFu, 255);
-    command(FRAMES, 0, 0);
-    command(FRAMES, 3, 255);
+    put_command(FRAME, 0, 0);
+    put_command(READ, 64, 0);
+    put_command(WRITE, 64, 1);
+    put_command(WRITE, MOST_NUMBER, 1);
+    put_command(POT, 1024, 0);
+    put_command(KINDS, 0, 0);
+    put_command(LAST_KIND, MOST_NUMBER, 255);
+    put_command(FRAMES, 0, 0);
+    put_command(FRAMES, 3, 255);
 }
 
 /* Every register of each kind of page takes a value of its own and then ones,
@@ -329,9 +306,9 @@ static void play_registers(void)
         put_registers(pages[kind], PAGE, 0xFFFFFFFFu, 0);
         get_registers(pages[kind], 16);
     }
-    command(FRAME, 0, 0);
+    put_command(FRAME, 0, 0);
     get_registers(HIGH_PAGES + 5, 10);
-    command(RESET, 0, 0);
+    put_command(RESET, 0, 0);
     get_registers(5, 16);
 }
 
@@ -339,17 +316,17 @@ static void play_registers(void)
 static void play_latches(void)
 {
     turn_to(3);
-    command(WRITE, 4 * VOICE_LVOL, 0x12);
-    command(WRITE, 4 * VOICE_RVOL + 2, 0x34);
-    command(WRITE, 4 * VOICE_K1 + 3, 0x56);
-    command(WRITE, 4 * VOICE_K2 + 3, 0x78);
+    put_command(WRITE, 4 * VOICE_LVOL, 0x12);
+    put_command(WRITE, 4 * VOICE_RVOL + 2, 0x34);
+    put_command(WRITE, 4 * VOICE_K1 + 3, 0x56);
+    put_command(WRITE, 4 * VOICE_K2 + 3, 0x78);
     get_register(VOICE_K1);
     get_register(VOICE_K2);
-    command(READ, 4 * VOICE_CR + 3, 0);
-    command(POT, 725, 0);
+    put_command(READ, 4 * VOICE_CR + 3, 0);
+    put_command(POT, 725, 0);
     get_register(PAR);
     get_register(PAR);
-    command(POT, 1023, 0);
+    put_command(POT, 1023, 0);
     get_register(PAR);
 }
 
@@ -464,7 +441,7 @@ static void play_end(void)
         get_registers(HIGH_PAGES + voice, 10);
     }
     get_register(IRQV);
-    command(RESET, 0, 0);
+    put_command(RESET, 0, 0);
     frames(1);
 }
 
@@ -492,16 +469,16 @@ static void play_no_flags(void)
 {
     set_control(12, 0xFFFFu);
     who_waits();
-    command(WRITE, 4 * VOICE_CR, 0);
-    command(WRITE, 4 * VOICE_CR + 1, 0);
-    command(WRITE, 4 * VOICE_CR + 2, 0);
+    put_command(WRITE, 4 * VOICE_CR, 0);
+    put_command(WRITE, 4 * VOICE_CR + 1, 0);
+    put_command(WRITE, 4 * VOICE_CR + 2, 0);
     who_waits();
     put_register(VOICE_LVOL, 0);
     turn_to(SUM_PAGES);
     put_register(OUTPUT_VALUES, 0xFFFFFFFFu);
     get_register(OUTPUT_VALUES);
     put_register(OUTPUT_VALUES, 0);
-    command(POT, 128, 0);
+    put_command(POT, 128, 0);
     who_waits();
     set_control(HIGH_PAGES + 12, 0xFF7Fu);
     who_waits();
@@ -552,8 +529,29 @@ static void play_waiting(void)
     play_no_flags();
     play_turns();
     play_events();
-    command(RESET, 0, 0);
+    put_command(RESET, 0, 0);
     who_waits();
+}
+
+/* Commands once more: all from one on, all but the last of them, some that were
+   repeated themselves, none, and as many as one repeat can ask for. One that
+   asks for more commands than it goes back by is no repeat, and neither is one
+   that goes back too far, be it for none. */
+static void play_repeats(void)
+{
+    put_command(POT, 333, 0);
+    get_register(PAR);
+    put_command(REPEAT, 5, 5);
+    put_command(REPEAT, 5, 4);
+    put_command(REPEAT, 7, 6);
+    put_command(REPEAT, 3, 0);
+    put_command(REPEAT, 0, 0);
+    put_command(REPEAT, 2, 3);
+    put_command(REPEAT, 0, 1);
+    put_command(REPEAT, MOST_NUMBER, 1);
+    put_command(REPEAT, MOST_NUMBER, 0);
+    put_command(REPEAT, MOST_REPEATED, MOST_REPEATED);
+    put_command(REPEAT, 2 * MOST_REPEATED, MOST_REPEATED);
 }
 
 static void put_memory(void)
@@ -579,6 +577,7 @@ static void make(void)
     play_chords();
     play_end();
     play_waiting();
+    play_repeats();
     put_number(0, 3); /* a command cut short, which gives no line */
 }
 
@@ -604,44 +603,35 @@ static void make_short(void)
     uint32_t voice;
 
     put_memory();
-    command(FRAME, 0, 0);
-    command(FRAMES, 2, 0);
-    command(RESET, 0, 0);
+    put_command(FRAME, 0, 0);
+    put_command(FRAMES, 2, 0);
+    put_command(RESET, 0, 0);
     for (voice = 0; voice < 12; voice++) {
         set_voice(voice, voices[voice]);
     }
-    command(FRAMES, 40, 0);
-    command(FRAMES, 0, 0);
+    put_command(FRAMES, 40, 0);
+    put_command(FRAMES, 0, 0);
     set_on_channels(16, highest);
-    command(FRAMES, 6, 0);
-    command(FRAME, 0, 0);
+    put_command(FRAMES, 6, 0);
+    put_command(FRAME, 0, 0);
+    put_command(REPEAT, 2, 2);
     turn_to(0);
     put_register(ACTV, 3);
-    command(FRAMES, 2, 0);
+    put_command(FRAMES, 2, 0);
     put_register(ACTV, 31);
     set_on_channels(16, lowest);
-    command(FRAMES, 7, 0);
+    put_command(FRAMES, 7, 0);
     get_register(IRQV);
-    command(POT, 1024, 0);
+    put_command(POT, 1024, 0);
     who_waits();
 }
 
 /* ==== playing ============================================================= */
 
 static unsigned char input[MOST_BYTES];
+static unsigned char full[MOST_COMMANDS * COMMAND_BYTES];
 static uint16_t memory[MEMORY_WORDS];
 static uint32_t record[RECORD_WORDS];
-
-static uint32_t number_of(const unsigned char *bytes, uint32_t count)
-{
-    uint32_t number = 0;
-    uint32_t place;
-
-    for (place = 0; place < count; place++) {
-        number = 256u * number + bytes[place];
-    }
-    return number;
-}
 
 static void print_frame(void)
 {
@@ -691,16 +681,17 @@ static void print_frames(uint32_t count)
     }
 }
 
-static void play_command(const unsigned char *bytes)
+static void play_command(const unsigned char *command)
 {
-    uint32_t number = number_of(bytes + 1, 4);
+    uint32_t number = number_in(command);
 
-    switch (bytes[0]) {
+    switch (command[0]) {
     case RESET:
         print_answer(reference_reset(record, RECORD_WORDS));
         break;
     case WRITE:
-        print_answer(reference_write(record, RECORD_WORDS, number, bytes[5]));
+        print_answer(reference_write(record, RECORD_WORDS, number,
+                                     command[3]));
         break;
     case READ:
         print_read(number);
@@ -725,9 +716,15 @@ static void play_command(const unsigned char *bytes)
 static void play(void)
 {
     size_t bytes = fread(input, 1, sizeof input, stdin);
+    size_t commands;
     size_t place;
 
-    if (bytes < 2 * MEMORY_WORDS) {
+    if (bytes < SCORE_MEMORY) {
+        return;
+    }
+    commands = put_in_full(full, input + SCORE_MEMORY,
+                           (bytes - SCORE_MEMORY) / COMMAND_BYTES);
+    if (commands > MOST_COMMANDS) {
         return;
     }
     for (place = 0; place < MEMORY_WORDS; place++) {
@@ -735,9 +732,8 @@ static void play(void)
     }
     /* No valid record: what is asked before a reset is refused. */
     memset(record, 0xFF, sizeof record);
-    for (place = 2 * MEMORY_WORDS; place + COMMAND_BYTES <= bytes;
-         place += COMMAND_BYTES) {
-        play_command(input + place);
+    for (place = 0; place < commands; place++) {
+        play_command(full + place * COMMAND_BYTES);
     }
 }
 

@@ -1,4 +1,4 @@
--- Numbers written as bytes, in either order.
+-- Numbers written as bytes, the lowest first or the highest.
 -- In order: the number that some bytes are; that of two bytes and that of four at a place of a list; a list by twos; the bytes of a number. Assumes
 -- nothing.
 use Prim.Native.Nat.{ℕ, zero, suc, _+_, _*_, _/_, _%_, _^_}
@@ -25,9 +25,6 @@ little4At xs i = little (part xs i 4)
 
 abbrev pub big2At : List ℕ → ℕ → ℕ
 big2At xs i = big (part xs i 2)
-
-abbrev pub big4At : List ℕ → ℕ → ℕ
-big4At xs i = big (part xs i 4)
 
 -- the numbers of a list's bytes by twos, in the order that is handed over: `twos little`, `twos big`. A last odd byte is left out.
 unfoldable pub twos : (List ℕ → ℕ) → List ℕ → List ℕ

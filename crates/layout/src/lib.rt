@@ -1,12 +1,12 @@
-// Numbers of two and of four bytes, in either order: made of their bytes, and read at a place of a slice; the bytes of a number, the lowest first; and four bytes
-// put into a slice.
+// Numbers of two and of four bytes, the lowest first, and of two, the highest first: made of their bytes, and read at a place of a slice; the bytes of
+// a number, the lowest first; and four bytes put into a slice.
 // What the places of a file are is the format's own; here is only how its numbers are written.
 ghost use mathlib.Core.Path.{_≡_};
 ghost use mathlib.Core.List.{[], _∷_};
 ghost use Prim.Native.Nat.{_+_, _≤_};
 ghost use lib.ListN.{length};
 ghost use Rattle.layout.specs.Parts.{withPart};
-ghost use Rattle.layout.specs.Bytes.{little, big, little2At, little4At, big2At, big4At, littleBytes};
+ghost use Rattle.layout.specs.Bytes.{little, big, little2At, little4At, big2At, littleBytes};
 
 // ---- the lowest byte first
 
@@ -64,24 +64,11 @@ fn big2(a: u8, b: u8) -> u16
     256 * a as u16 + b as u16
 }
 
-fn big4(a: u8, b: u8, c: u8, d: u8) -> u32
-    ensures { λ r. ⌜ r ≡ big (a ∷ b ∷ c ∷ d ∷ []) ⌝ }
-{
-    16777216 * a as u32 + 65536 * b as u32 + 256 * c as u32 + d as u32
-}
-
 pub fn big2_at(bytes: &[u8], at: usize) -> u16
     requires { ⌜ at + 2 ≤ length (now bytes) ⌝ }
     ensures { λ r. ⌜ r ≡ big2At (now (bytes .entry)) at ⌝ }
 {
     big2(bytes[at], bytes[at + 1])
-}
-
-pub fn big4_at(bytes: &[u8], at: usize) -> u32
-    requires { ⌜ at + 4 ≤ length (now bytes) ⌝ }
-    ensures { λ r. ⌜ r ≡ big4At (now (bytes .entry)) at ⌝ }
-{
-    big4(bytes[at], bytes[at + 1], bytes[at + 2], bytes[at + 3])
 }
 
 // ---- bytes put

@@ -1,7 +1,7 @@
 -- Sums over the numbers below k, and that a renumbering of these leaves them as they were. It is asked to lead to numbers below k, and to be
 -- one-to-one; that it is onto is counted here.
--- In order: sums (`sum-ext`, `sum-changed`, `sum-most`, `sum-zeros`, `none-summed`); a number that is hit or missed; how often a map hits a number; the two
--- laws (`sum-renumbered`, `maps-outside`). That sums of channels may be taken in any order is `channel/proofs/Laws`. Assumes nothing.
+-- In order: sums (`sum-ext`, `sum-first`, `sum-changed`, `sum-most`, `sum-zeros`, `none-summed`); a number that is hit or missed; how often a map hits
+-- a number; the two laws (`sum-renumbered`, `maps-outside`). That sums of channels may be taken in any order is `channel/proofs/Laws`. Assumes nothing.
 use mathlib.Core.Path.{_≡_, refl, sym, ap, _∙_}
 use mathlib.Core.Bool.{cond}
 use mathlib.Core.Logic.{_≢_}
@@ -19,6 +19,12 @@ pub sum-ext : (k : ℕ) (f g : ℕ → ℕ) → ((v : ℕ) → v < k → f v ≡
 unfolding sum
 sum-ext zero f g h = refl
 sum-ext (suc k) f g h = cc (sum-ext k f g (λ v l. h v (omega arith)), h k (omega arith))
+
+-- from its first number on
+pub sum-first : (k : ℕ) (f : ℕ → ℕ) → sum (suc k) f ≡ f 0 + sum k (λ v. f (suc v))
+unfolding sum
+sum-first zero f = omega arith
+sum-first (suc k) f = omega (arith, sum-first k f)
 
 -- two sums that differ in the number at u alone
 pub sum-changed : (k u : ℕ) (f g : ℕ → ℕ) → u < k → ((v : ℕ) → v < k → v ≢ u → f v ≡ g v) → sum k f + g u ≡ sum k g + f u

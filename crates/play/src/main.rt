@@ -3,25 +3,47 @@
 // there and nothing else. What a score is, and what is heard of it, is the crate `scores`.
 ghost use mathlib.Core.Path.{_≡_};
 ghost use Prim.Native.Nat.{_*_, _≤_};
-ghost use lib.ListN.{length};
-ghost use Rattle.scores.specs.Score.{verdictOf};
+ghost use lib.ListN.{length, take};
+ghost use Rattle.scores.specs.Score.{MOST_FULL_BYTES, MOST_FRAMES, commandsOf, verdictOf};
+ghost use Rattle.scores.specs.Sound.{SAMPLE_BYTES};
 ghost use Rattle.scores.specs.declared.Verdict.the-variants.{Good};
 use libc::STDERR_FILENO;
 use libc::STDIN_FILENO;
 use libc::STDOUT_FILENO;
 use scores::Verdict;
 
-// One byte more than a score may have is read, so that a longer one is seen.
+// One byte more than a score may have is read, so that a longer one is seen. Nothing is written before the whole score is known to be good.
 fn main() {
     let mut input = [0u8; 65537];
     let n = io::read_full(STDIN_FILENO, &mut input);
-    let verdict = scores::judge(&input[..n]);
+    let mut full = [0u8; scores::MOST_FULL_BYTES];
+    let verdict = scores::judge(&input[..n], &mut full);
     match verdict {
-        Verdict::Good => sound(&input[..n]),
+        Verdict::Good => play(&input[..n], &full),
+        _ => complain_of(verdict),
+    }
+}
+
+// A good score, whose commands stand in full at the start of `full`.
+fn play(score: &[u8], full: &[u8])
+    requires { ⌜ (verdictOf (now score) ≡ Good) × (length (now full) ≡ MOST_FULL_BYTES) × (take (length (commandsOf (now score))) (now full) ≡ commandsOf (now score)) ⌝ }
+{
+    let n = repeats::full_bytes(&score[scores::MEMORY_BYTES..]);
+    sound(score, &full[..n]);
+}
+
+// The line of a score that is not good.
+fn complain_of(verdict: Verdict) {
+    match verdict {
+        Verdict::Good => {}
         Verdict::TooLong => complain(b"the score has more than 65,536 bytes"),
         Verdict::NoMemory => complain(b"the score ends before its 8,192 bytes of sample memory do"),
         Verdict::Cut => complain(b"the score ends within a command"),
+        Verdict::TooManyCommands => complain(b"the score has more than 65,536 commands in full"),
         Verdict::Unknown => complain(b"a command is of an unknown kind"),
+        Verdict::NotThere => complain(
+            b"a repeat goes back past the first command, or asks for more than it goes back by",
+        ),
         Verdict::TooManyFrames => complain(b"the score has more frames than a WAVE file holds"),
     }
 }
@@ -33,20 +55,20 @@ fn complain(text: &[u8]) {
 }
 
 // The head of the file, and then the sound. The record is not valid at first, so that all that is asked before a reset is refused.
-fn sound(score: &[u8])
-    requires { ⌜ verdictOf (now score) ≡ Good ⌝ }
+fn sound(score: &[u8], commands: &[u8])
+    requires { ⌜ (verdictOf (now score) ≡ Good) × (now commands ≡ commandsOf (now score)) ⌝ }
 {
     let mut memory = [0u16; scores::MEMORY_WORDS];
     scores::fill(&mut memory, score);
-    let frames = scores::frames_of(&score[scores::MEMORY_BYTES..]);
-    put_head((4 * frames) as u32);
+    let frames = scores::frames_of(commands);
+    put_head((scores::SAMPLE_BYTES as u64 * frames) as u32);
     let mut m = [4294967295u32; machine::RECORD_WORDS];
-    render(&mut m, &memory, &score[scores::MEMORY_BYTES..], frames);
+    render(&mut m, &memory, commands, frames);
 }
 
 // What stands before so many bytes of sound.
 fn put_head(bytes: u32)
-    requires { ⌜ bytes ≤ 4294967259 ⌝ }
+    requires { ⌜ bytes ≤ SAMPLE_BYTES * MOST_FRAMES ⌝ }
 {
     io::write_all(
         STDOUT_FILENO,
@@ -56,7 +78,7 @@ fn put_head(bytes: u32)
     io::write_all(STDOUT_FILENO, &wave_head::data_head(bytes));
 }
 
-// The score in parts, of 16,384 calls each. A score has fewer than 2^46 calls, so that no sum here wraps.
+// The score in parts, of 16,384 calls each. A score has at most 2^32 calls, so that no sum here wraps.
 fn render(m: &mut [u32], memory: &[u16], commands: &[u8], frames: u64) {
     let mut part = io::large_buffer();
     let mut command = 0;
@@ -65,7 +87,7 @@ fn render(m: &mut [u32], memory: &[u16], commands: &[u8], frames: u64) {
     let mut refused = 0;
     let mut loud = 0;
     say_progress(0, frames);
-    while command < commands.len() / scores::COMMAND_BYTES {
+    while command < commands.len() / repeats::COMMAND_BYTES {
         let p = scores::play(m, memory, commands, command, made, &mut part);
         loud = put(&part, p.frames, loud);
         played = std::num::wrapping_add_u64(played, p.frames as u64);
@@ -79,7 +101,7 @@ fn render(m: &mut [u32], memory: &[u16], commands: &[u8], frames: u64) {
 
 // The first frames of a part; answers the loudest sample until then.
 fn put(part: &[u8], frames: usize, loud: u32) -> u32
-    requires { ⌜ 4 * frames ≤ length (now part) ⌝ }
+    requires { ⌜ SAMPLE_BYTES * frames ≤ length (now part) ⌝ }
 {
     let bytes = scores::SAMPLE_BYTES * frames;
     io::write_all(STDOUT_FILENO, &part[..bytes]);

@@ -1,36 +1,50 @@
 // Plays a score on one machine and prints what each call answers. What a score is, and which calls it asks for, is the crate `scores`.
 //
 // Each call gives one line: the answer's number, for a read also the byte, for the question which voices wait also their mask, for a frame also how
-// many words were missing and the twelve values. A command that makes no call gives the line "no call". A last command that is cut short is left out,
-// and so is all that stands after 65,536 bytes; a score whose sample memory is cut short gives no line.
+// many words were missing and the twelve values. A command, in full, that makes no call gives the line "no call". A last command that is cut short is
+// left out, and so is all that stands after 65,536 bytes; a score whose sample memory is cut short, or that has more than 65,536 commands in full,
+// gives no line.
 ghost use mathlib.Core.Path.{_≡_};
+ghost use Prim.Native.Nat.{_≤_};
 ghost use lib.IntN.{natAbs};
+ghost use lib.ListN.{length};
+ghost use Rattle.scores.specs.Score.{MOST_BYTES, MEMORY_BYTES};
 use calls::Ask;
 use calls::Reply;
 use libc::STDIN_FILENO;
 use libc::STDOUT_FILENO;
 use scores::Command;
 
-// The record is not valid at first, so that all that is asked before a reset is refused.
 fn main() {
     let mut input = io::large_buffer();
     let n = io::read_full(STDIN_FILENO, &mut input);
-    if n < scores::MEMORY_BYTES {
+    if scores::MEMORY_BYTES <= n {
+        let mut full = [0u8; scores::MOST_FULL_BYTES];
+        play(&input[..n], &mut full);
+    }
+}
+
+// Its commands in full. The record is not valid at first, so that all that is asked before a reset is refused.
+fn play(score: &[u8], full: &mut [u8])
+    requires { ⌜ (MEMORY_BYTES ≤ length (now score)) × (length (now score) ≤ MOST_BYTES) ⌝ }
+{
+    if full.len() < repeats::full_bytes(&score[scores::MEMORY_BYTES..]) {
         return;
     }
+    let n = repeats::put_in_full(&score[scores::MEMORY_BYTES..], full);
     let mut memory = [0u16; scores::MEMORY_WORDS];
-    scores::fill(&mut memory, &input[..n]);
+    scores::fill(&mut memory, score);
     let mut m = [4294967295u32; machine::RECORD_WORDS];
-    play(&mut m, &memory, &input[scores::MEMORY_BYTES..n]);
+    obey_all(&mut m, &memory, &full[..n]);
 }
 
 // The commands in turn.
-fn play(m: &mut [u32], memory: &[u16], commands: &[u8]) {
-    for k in 0..commands.len() / scores::COMMAND_BYTES {
+fn obey_all(m: &mut [u32], memory: &[u16], commands: &[u8]) {
+    for k in 0..commands.len() / repeats::COMMAND_BYTES {
         obey(
             m,
             memory,
-            scores::command_at(commands, scores::COMMAND_BYTES * k),
+            scores::command_at(commands, repeats::COMMAND_BYTES * k),
         );
     }
 }

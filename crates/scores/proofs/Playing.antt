@@ -1,6 +1,7 @@
 -- Some calls of a score, one at a time.
--- In order: the calls that are left at a place, and one call on or one command on (`left-call`, `left-next`); what is heard of a run from its first
--- call on (`heard-cons`); a score while it is played (`Going`): it begins, one call more is made, and it ends. Assumes nothing.
+-- In order: the calls that are left at a place, one call on or one command on (`left-call`, `left-next`), also for a command as the code has it
+-- (`one-call`, `one-command`), and where none is left (`left-none`); what is heard of a run from its first call on (`heard-cons`), and what one call
+-- counts for (`at-most-one`); a score while it is played (`Going`): it begins, one call more is made, and it ends (`over`). Assumes nothing.
 use mathlib.Core.Path.{_≡_, refl, sym, ap, subst, _∙_}
 use mathlib.Core.Bool.{Bool, true, false, cond, true≢false}
 use mathlib.Core.List.{List, [], _∷_, _++_, append-assoc, append-nil}
@@ -17,8 +18,9 @@ use Rattle.answer.specs.Answer.{isDone}
 use Rattle.machine.specs.Words.{OUTPUT_VALUES}
 use Rattle.calls.specs.Calls.{Call, Reset, Write, Read, SetPot, Waiting, Frame, answerTo, after, outputFrom, run, answers, outputs}
 use Rattle.calls.specs.Asks.{callOf}
-use Rattle.scores.specs.Score.{commandNo, commandCount, silence, callsOf, callsFrom}
-use Rattle.scores.specs.Sound.{sampleBytes, soundOf}
+use Rattle.repeats.specs.Repeats.{commandCount}
+use Rattle.scores.specs.Score.{commandNo, silence, callsOf, callsFrom}
+use Rattle.scores.specs.Sound.{SAMPLE_BYTES, sampleBytes, soundOf}
 use Rattle.scores.specs.Playing.{leftFrom, isFrame, framesIn, refusals, heardFrom, heardAt, Makes}
 use Rattle.scores.specs.declared.Command.{Command}
 use Rattle.scores.specs.declared.Made.{Made}
@@ -27,10 +29,10 @@ use Rattle.scores.proofs.Making.{Long}
 -- ---- the calls that are left
 
 -- calls of which d are made
-drop-repeated : (x : Call) (t d : ℕ) (rest : List Call) → d < t → drop d (replicate t x ++ rest) ≡ x ∷ drop (suc d) (replicate t x ++ rest)
-drop-repeated x zero d rest h = absurd (omega arith)
-drop-repeated x (suc t) zero rest h = refl
-drop-repeated x (suc t) (suc d) rest h = drop-repeated x t d rest (omega arith)
+drop-replicate : (x : Call) (t d : ℕ) (rest : List Call) → d < t → drop d (replicate t x ++ rest) ≡ x ∷ drop (suc d) (replicate t x ++ rest)
+drop-replicate x zero d rest h = absurd (omega arith)
+drop-replicate x (suc t) zero rest h = refl
+drop-replicate x (suc t) (suc d) rest h = drop-replicate x t d rest (omega arith)
 
 drop-all : (x : Call) (t : ℕ) (rest : List Call) → drop t (replicate t x ++ rest) ≡ rest
 drop-all x zero rest = refl
@@ -53,7 +55,7 @@ module _ (memory commands : List ℕ) (k : ℕ) (h : k < commandCount commands) 
   pub left-call : (made : ℕ) → made < commandNo commands k .times
       → leftFrom memory commands k made ≡ callOf (commandNo commands k .ask) memory silence ∷ leftFrom memory commands k (suc made)
   unfolding call
-  left-call made l = rw here (drop-repeated call (commandNo commands k .times) made others l)
+  left-call made l = rw here (drop-replicate call (commandNo commands k .times) made others l)
 
   pub left-next : (made : ℕ) → made ≡ commandNo commands k .times → leftFrom memory commands k made ≡ leftFrom memory commands (suc k) 0
   unfolding others
@@ -106,11 +108,11 @@ heard-cons m c cs whole = by (isFrame c) refl
         rw (k, e, take-at o (outputs (after m c) cs) OUTPUT_VALUES (whole k), drop-at o (outputs (after m c) cs) OUTPUT_VALUES (whole k)) refl
     by false k = rw (k, not-heard m c k, zero-add) refl
 
-heard-long : (m : List ℕ) (c : Call) → length (heardAt m c) ≡ 4 * cond (isFrame c) 1 0
+heard-long : (m : List ℕ) (c : Call) → length (heardAt m c) ≡ SAMPLE_BYTES * cond (isFrame c) 1 0
 unfolding heardAt sampleBytes littleBytes
 heard-long m c = by (isFrame c) refl
   where
-    by : (b : Bool) → isFrame c ≡ b → length (heardAt m c) ≡ 4 * cond (isFrame c) 1 0
+    by : (b : Bool) → isFrame c ≡ b → length (heardAt m c) ≡ SAMPLE_BYTES * cond (isFrame c) 1 0
     by true k = rw k refl
     by false k = rw k refl
 
@@ -130,8 +132,8 @@ pub record Going (room : ℕ) (all : List Call) (m₀ sound₀ : List ℕ) (cs :
   pub leaves : run m₀ (take room all) ≡ run m (take (room - calls) cs)
   pub counts : framesIn (take room all) ≡ frames + framesIn (take (room - calls) cs)
   pub refuses : refusals (answers m₀ (take room all)) ≡ refused + refusals (answers m (take (room - calls) cs))
-  pub hears : heardFrom m₀ (take room all) ≡ take (4 * frames) sound ++ heardFrom m (take (room - calls) cs)
-  pub stays : drop (4 * frames) sound ≡ drop (4 * frames) sound₀
+  pub hears : heardFrom m₀ (take room all) ≡ take (SAMPLE_BYTES * frames) sound ++ heardFrom m (take (room - calls) cs)
+  pub stays : drop (SAMPLE_BYTES * frames) sound ≡ drop (SAMPLE_BYTES * frames) sound₀
   pub goes : drop room all ≡ drop (room - calls) cs
   pub long : length sound ≡ length sound₀
   pub frames-few : frames ≤ calls
@@ -156,8 +158,8 @@ begins room all m sound =
 
 -- one call more
 module _ {room : ℕ} {all : List Call} {m₀ sound₀ : List ℕ} {c : Call} {cs : List Call} {m sound : List ℕ} {calls frames refused : ℕ}
-    (g : Going room all m₀ sound₀ (c ∷ cs) m sound calls frames refused) (h : calls < room) (fits : 4 * room ≤ length sound₀)
-    (w : Long c) {one : Made} {later heard : List ℕ} (p : Makes m c sound (4 * frames) one later heard) where
+    (g : Going room all m₀ sound₀ (c ∷ cs) m sound calls frames refused) (h : calls < room) (fits : SAMPLE_BYTES * room ≤ length sound₀)
+    (w : Long c) {one : Made} {later heard : List ℕ} (p : Makes m c sound (SAMPLE_BYTES * frames) one later heard) where
   xs : List Call
   xs = take (room - (calls + 1)) cs
 
@@ -168,29 +170,39 @@ module _ {room : ℕ} {all : List Call} {m₀ sound₀ : List ℕ} {c : Call} {c
       rw e refl
 
   -- how long the heard part is, and that it has room
-  long : length (heardAt m c) ≡ 4 * one .frames
+  long : length (heardAt m c) ≡ SAMPLE_BYTES * one .frames
   long = rw (p .counts) (heard-long m c)
 
-  room-for : 4 * frames + length (heardAt m c) ≤ length sound
+  room-for : SAMPLE_BYTES * frames + length (heardAt m c) ≤ length sound
   room-for = rw (long, g .long) (omega (arith, at-most-one p .0, g .frames-few))
 
-  so-far : length (take (4 * frames) sound ++ heardAt m c) ≡ 4 * (frames + one .frames)
-  so-far = length-append (take (4 * frames) sound) (heardAt m c) ∙ rw (length-take-le (4 * frames) sound (omega (arith, room-for)), long) (omega arith)
+  so-far : length (take (SAMPLE_BYTES * frames) sound ++ heardAt m c) ≡ SAMPLE_BYTES * (frames + one .frames)
+  so-far =
+      length-append (take (SAMPLE_BYTES * frames) sound) (heardAt m c)
+      ∙ rw (length-take-le (SAMPLE_BYTES * frames) sound (omega (arith, room-for)), long) (omega arith)
 
-  joined : heard ≡ (take (4 * frames) sound ++ heardAt m c) ++ drop (4 * frames + length (heardAt m c)) sound
-  joined = p .hears ∙ sym (append-assoc (take (4 * frames) sound) (heardAt m c) (drop (4 * frames + length (heardAt m c)) sound))
+  joined : heard ≡ (take (SAMPLE_BYTES * frames) sound ++ heardAt m c) ++ drop (SAMPLE_BYTES * frames + length (heardAt m c)) sound
+  joined = p .hears ∙ sym (append-assoc (take (SAMPLE_BYTES * frames) sound) (heardAt m c) (drop (SAMPLE_BYTES * frames + length (heardAt m c)) sound))
 
-  heard-part : take (4 * (frames + one .frames)) heard ≡ take (4 * frames) sound ++ heardAt m c
-  heard-part = rw joined (take-at (take (4 * frames) sound ++ heardAt m c) (drop (4 * frames + length (heardAt m c)) sound) (4 * (frames + one .frames)) so-far)
+  heard-part : take (SAMPLE_BYTES * (frames + one .frames)) heard ≡ take (SAMPLE_BYTES * frames) sound ++ heardAt m c
+  heard-part =
+      rw joined
+      (take-at (take (SAMPLE_BYTES * frames) sound ++ heardAt m c) (drop (SAMPLE_BYTES * frames + length (heardAt m c)) sound)
+      (SAMPLE_BYTES * (frames + one .frames)) so-far)
 
-  after-part : drop (4 * (frames + one .frames)) heard ≡ drop (4 * frames + length (heardAt m c)) sound
-  after-part = rw joined (drop-at (take (4 * frames) sound ++ heardAt m c) (drop (4 * frames + length (heardAt m c)) sound) (4 * (frames + one .frames)) so-far)
+  after-part : drop (SAMPLE_BYTES * (frames + one .frames)) heard ≡ drop (SAMPLE_BYTES * frames + length (heardAt m c)) sound
+  after-part =
+      rw joined
+      (drop-at (take (SAMPLE_BYTES * frames) sound ++ heardAt m c) (drop (SAMPLE_BYTES * frames + length (heardAt m c)) sound)
+      (SAMPLE_BYTES * (frames + one .frames)) so-far)
 
-  rest-part : drop (4 * (frames + one .frames)) heard ≡ drop (4 * (frames + one .frames)) sound₀
+  rest-part : drop (SAMPLE_BYTES * (frames + one .frames)) heard ≡ drop (SAMPLE_BYTES * (frames + one .frames)) sound₀
   rest-part =
-      let e : 4 * (frames + one .frames) ≡ 4 * frames + 4 * one .frames = omega arith in
-      let d : drop (4 * frames + 4 * one .frames) sound ≡ drop (4 * frames + 4 * one .frames) sound₀ =
-      sym (drop-drop (4 * one .frames) (4 * frames) sound) ∙ ap (drop (4 * one .frames)) (g .stays) ∙ drop-drop (4 * one .frames) (4 * frames) sound₀ in
+      let e : SAMPLE_BYTES * (frames + one .frames) ≡ SAMPLE_BYTES * frames + SAMPLE_BYTES * one .frames = omega arith in
+      let d : drop (SAMPLE_BYTES * frames + SAMPLE_BYTES * one .frames) sound ≡ drop (SAMPLE_BYTES * frames + SAMPLE_BYTES * one .frames) sound₀ =
+      sym (drop-drop (SAMPLE_BYTES * one .frames) (SAMPLE_BYTES * frames) sound)
+      ∙ ap (drop (SAMPLE_BYTES * one .frames)) (g .stays)
+      ∙ drop-drop (SAMPLE_BYTES * one .frames) (SAMPLE_BYTES * frames) sound₀ in
       after-part ∙ rw (long, e) d
 
   pub next : Going room all m₀ sound₀ cs later heard (calls + 1) (frames + one .frames) (refused + one .refused)
@@ -199,9 +211,10 @@ module _ {room : ℕ} {all : List Call} {m₀ sound₀ : List ℕ} {c : Call} {c
       let u : framesIn (take room all) ≡ frames + (cond (isFrame c) 1 0 + framesIn xs) = g .counts ∙ ap (λ (l : List Call). frames + framesIn l) cut in
       let v : refusals (answers m₀ (take room all)) ≡ refused + (cond (isDone (answerTo m c)) 0 1 + refusals (answers (after m c) xs)) =
       g .refuses ∙ ap (λ (l : List Call). refused + refusals (answers m l)) cut in
-      let y : heardFrom m₀ (take room all) ≡ (take (4 * frames) sound ++ heardAt m c) ++ heardFrom (after m c) xs =
-      g .hears ∙ ap (λ (l : List Call). take (4 * frames) sound ++ heardFrom m l) cut
-      ∙ ap (λ (l : List ℕ). take (4 * frames) sound ++ l) (heard-cons m c xs (w m)) ∙ sym (append-assoc (take (4 * frames) sound) (heardAt m c) (heardFrom (after m c) xs)) in
+      let y : heardFrom m₀ (take room all) ≡ (take (SAMPLE_BYTES * frames) sound ++ heardAt m c) ++ heardFrom (after m c) xs =
+      g .hears ∙ ap (λ (l : List Call). take (SAMPLE_BYTES * frames) sound ++ heardFrom m l) cut
+      ∙ ap (λ (l : List ℕ). take (SAMPLE_BYTES * frames) sound ++ l) (heard-cons m c xs (w m))
+      ∙ sym (append-assoc (take (SAMPLE_BYTES * frames) sound) (heardAt m c) (heardFrom (after m c) xs)) in
       let z : drop (room - calls) (c ∷ cs) ≡ drop (room - (calls + 1)) cs =
       (let e : room - calls ≡ suc (room - (calls + 1)) = omega arith in rw e refl) in
       record {
@@ -211,7 +224,7 @@ module _ {room : ℕ} {all : List Call} {m₀ sound₀ : List ℕ} {c : Call} {c
         hears = rw (heard-part, p .leaves) y;
         stays = rest-part;
         goes = g .goes ∙ z;
-        long = rw (p .hears) (with-length sound (4 * frames) (heardAt m c) room-for ∙ g .long);
+        long = rw (p .hears) (with-length sound (SAMPLE_BYTES * frames) (heardAt m c) room-for ∙ g .long);
         frames-few = omega (arith, at-most-one p .0, g .frames-few);
         refused-few = omega (arith, at-most-one p .1, g .refused-few);
         sum = omega (arith, g .sum);
@@ -238,9 +251,13 @@ module _ {room : ℕ} {all : List Call} {m₀ sound₀ : List ℕ} {cs : List Ca
   unfolding refusals answers
   refuses-end = sym (g .refuses ∙ ap (λ (l : List Call). refused + refusals (answers m l)) none ∙ add-zero refused)
 
-  pub hears-end : take (4 * frames) sound ≡ heardFrom m₀ (take room all)
+  pub hears-end : take (SAMPLE_BYTES * frames) sound ≡ heardFrom m₀ (take room all)
   unfolding heardFrom framesIn outputs soundOf
-  hears-end = sym (g .hears ∙ ap (λ (l : List Call). take (4 * frames) sound ++ heardFrom m l) none ∙ append-nil (take (4 * frames) sound))
+  hears-end =
+      sym
+      (g .hears
+      ∙ ap (λ (l : List Call). take (SAMPLE_BYTES * frames) sound ++ heardFrom m l) none
+      ∙ append-nil (take (SAMPLE_BYTES * frames) sound))
 
   pub goes-end : cs ≡ drop room all
   goes-end = sym (g .goes ∙ rest)

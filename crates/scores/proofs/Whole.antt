@@ -11,14 +11,14 @@ use native.Mathlib.Omega.{arith}
 use lib.IntN.{ℤ}
 use lib.ListN.{length, take, drop, replicate, take-append-drop}
 use Rattle.numbers.specs.Sum.{sum}
-use Rattle.numbers.proofs.Sum.{sum-ext}
+use Rattle.numbers.proofs.Sum.{sum-ext, sum-first}
 use Rattle.layout.specs.Bytes.{littleBytes}
 use Rattle.machine.specs.Words.{OUTPUT_VALUES}
 use Rattle.calls.specs.Calls.{Call, after, run, outputs}
 use Rattle.calls.specs.Asks.{callOf}
-use Rattle.calls.specs.declared.Ask.the-variants as Ask
-use Rattle.scores.specs.Score.{silence, commandNo, commandCount, callsOf, callsFrom, scoreCalls, isFrameAsk, framesOf, scoreFrames}
-use Rattle.scores.specs.Sound.{sampleBytes, soundOf}
+use Rattle.repeats.specs.Repeats.{commandCount}
+use Rattle.scores.specs.Score.{silence, commandNo, callsOf, callsFrom, commandsOf, allCalls, scoreCalls, isFrameAsk, framesOf, allFrames, scoreFrames}
+use Rattle.scores.specs.Sound.{SAMPLE_BYTES, sampleBytes, soundOf}
 use Rattle.scores.specs.Playing.{leftFrom, isFrame, framesIn, heardFrom, heardAt, Plays}
 use Rattle.scores.specs.declared.Command.{Command}
 use Rattle.scores.specs.declared.Played.{Played}
@@ -34,9 +34,9 @@ both-long : (t u : List Call) → AllLong t → AllLong u → AllLong (t ++ u)
 both-long [] u a b = b
 both-long (c ∷ t) u a b = (a .0, both-long t u (a .1) b)
 
-repeated-long : (n : ℕ) (c : Call) → Long c → AllLong (replicate n c)
-repeated-long zero c l = tt
-repeated-long (suc n) c l = (l, repeated-long n c l)
+replicate-long : (n : ℕ) (c : Call) → Long c → AllLong (replicate n c)
+replicate-long zero c l = tt
+replicate-long (suc n) c l = (l, replicate-long n c l)
 
 take-long : (n : ℕ) (cs : List Call) → AllLong cs → AllLong (take n cs)
 take-long zero cs a = tt
@@ -53,7 +53,7 @@ unfolding callsFrom callsOf
 calls-long memory commands zero k = tt
 calls-long memory commands (suc n) k =
     both-long (callsOf memory (commandNo commands k)) (callsFrom memory commands n (suc k))
-    (repeated-long (commandNo commands k .times) (callOf (commandNo commands k .ask) memory silence) (call-long (commandNo commands k .ask) memory))
+    (replicate-long (commandNo commands k .times) (callOf (commandNo commands k .ask) memory silence) (call-long (commandNo commands k .ask) memory))
     (calls-long memory commands n (suc k))
 
 -- ---- what is heard
@@ -80,9 +80,11 @@ in-parts m memory commands k made n =
     ap (heardFrom m) (sym (take-append-drop n cs)) ∙ heard-both m (take n cs) (drop n cs) (take-long n cs a)
 
 -- a part that was played, and what is left of the score after it
-module _ {m memory commands : List ℕ} {k made : ℕ} {sound : List ℕ} {r : Played} {later heard : List ℕ} (p : Plays m memory commands k made sound r later heard) where
-  pub part-heard : heardFrom m (leftFrom memory commands k made) ≡ take (4 * r .frames) heard ++ heardFrom later (leftFrom memory commands (r .command) (r .made))
-  part-heard = in-parts m memory commands k made (length sound / 4) ∙ rw (p .hears, p .leaves, p .goes) refl
+module _ {m memory commands : List ℕ} {k made : ℕ} {sound : List ℕ} {r : Played} {later heard : List ℕ}
+    (p : Plays m memory commands k made sound r later heard) where
+  pub part-heard : heardFrom m (leftFrom memory commands k made)
+      ≡ take (SAMPLE_BYTES * r .frames) heard ++ heardFrom later (leftFrom memory commands (r .command) (r .made))
+  part-heard = in-parts m memory commands k made (length sound / SAMPLE_BYTES) ∙ rw (p .hears, p .leaves, p .goes) refl
 
   -- two outcomes are equal, but that the place in the score may have another name: the calls that are left are the same
   pub one-part : {s : Played} {later′ heard′ : List ℕ} → Plays m memory commands k made sound s later′ heard′
@@ -90,25 +92,26 @@ module _ {m memory commands : List ℕ} {k made : ℕ} {sound : List ℕ} {r : P
       × (leftFrom memory commands (r .command) (r .made) ≡ leftFrom memory commands (s .command) (s .made))
   one-part {s} {heard′} q =
       let f : r .frames ≡ s .frames = p .counts ∙ sym (q .counts) in
-      let t : take (4 * r .frames) heard ≡ take (4 * r .frames) heard′ = p .hears ∙ sym (q .hears) ∙ ap (λ (n : ℕ). take (4 * n) heard′) (sym f) in
-      let d : drop (4 * r .frames) heard ≡ drop (4 * r .frames) heard′ =
-      p .stays ∙ ap (λ (n : ℕ). drop (4 * n) sound) f ∙ sym (q .stays) ∙ ap (λ (n : ℕ). drop (4 * n) heard′) (sym f) in (
+      let t : take (SAMPLE_BYTES * r .frames) heard ≡ take (SAMPLE_BYTES * r .frames) heard′ =
+      p .hears ∙ sym (q .hears) ∙ ap (λ (n : ℕ). take (SAMPLE_BYTES * n) heard′) (sym f) in
+      let d : drop (SAMPLE_BYTES * r .frames) heard ≡ drop (SAMPLE_BYTES * r .frames) heard′ =
+      p .stays ∙ ap (λ (n : ℕ). drop (SAMPLE_BYTES * n) sound) f ∙ sym (q .stays) ∙ ap (λ (n : ℕ). drop (SAMPLE_BYTES * n) heard′) (sym f) in (
         p .leaves ∙ sym (q .leaves),
-        sym (take-append-drop (4 * r .frames) heard) ∙ (λ i. t i ++ d i) ∙ take-append-drop (4 * r .frames) heard′,
+        sym (take-append-drop (SAMPLE_BYTES * r .frames) heard) ∙ (λ i. t i ++ d i) ∙ take-append-drop (SAMPLE_BYTES * r .frames) heard′,
         f,
         p .refuses ∙ sym (q .refuses),
         p .goes ∙ sym (q .goes),
       )
 
 -- four bytes a frame
-sound-bytes : (n : ℕ) (values : List ℤ) → length (soundOf n values) ≡ 4 * n
+sound-bytes : (n : ℕ) (values : List ℤ) → length (soundOf n values) ≡ SAMPLE_BYTES * n
 unfolding soundOf sampleBytes littleBytes
 sound-bytes zero values = refl
 sound-bytes (suc n) values =
-    let e : 4 * suc n ≡ suc (suc (suc (suc (4 * n)))) = omega arith in
+    let e : SAMPLE_BYTES * suc n ≡ suc (suc (suc (suc (SAMPLE_BYTES * n)))) = omega arith in
     rw e (ap (λ (k : ℕ). suc (suc (suc (suc k)))) (sound-bytes n (drop OUTPUT_VALUES values)))
 
-pub heard-bytes : (m : List ℕ) (cs : List Call) → length (heardFrom m cs) ≡ 4 * framesIn cs
+pub heard-bytes : (m : List ℕ) (cs : List Call) → length (heardFrom m cs) ≡ SAMPLE_BYTES * framesIn cs
 unfolding heardFrom
 heard-bytes m cs = sound-bytes (framesIn cs) (outputs m cs)
 
@@ -119,22 +122,16 @@ unfolding framesIn
 frames-both [] u = sym (zero-add (framesIn u))
 frames-both (c ∷ t) u = omega (arith, frames-both t u)
 
-frames-repeated : (c : Call) (b : Bool) → isFrame c ≡ b → (n : ℕ) → framesIn (replicate n c) ≡ cond b n 0
+frames-replicate : (c : Call) (b : Bool) → isFrame c ≡ b → (n : ℕ) → framesIn (replicate n c) ≡ cond b n 0
 unfolding framesIn
-frames-repeated c true e zero = refl
-frames-repeated c false e zero = refl
-frames-repeated c true e (suc n) = rw e (omega (arith, frames-repeated c true e n))
-frames-repeated c false e (suc n) = rw e (omega (arith, frames-repeated c false e n))
+frames-replicate c true e zero = refl
+frames-replicate c false e zero = refl
+frames-replicate c true e (suc n) = rw e (omega (arith, frames-replicate c true e n))
+frames-replicate c false e (suc n) = rw e (omega (arith, frames-replicate c false e n))
 
 frames-of-command : (memory : List ℕ) (c : Command) → framesIn (callsOf memory c) ≡ framesOf c
 unfolding callsOf framesOf
-frames-of-command memory c = frames-repeated (callOf (c .ask) memory silence) (isFrameAsk (c .ask)) (asks-frame (c .ask) memory silence) (c .times)
-
--- a sum from its first number on
-sum-first : (n : ℕ) (f : ℕ → ℕ) → sum (suc n) f ≡ f 0 + sum n (λ i. f (suc i))
-unfolding sum
-sum-first zero f = omega arith
-sum-first (suc n) f = omega (arith, sum-first n f)
+frames-of-command memory c = frames-replicate (callOf (c .ask) memory silence) (isFrameAsk (c .ask)) (asks-frame (c .ask) memory silence) (c .times)
 
 -- of n commands, from command k on
 frames-from : (memory commands : List ℕ) (n k : ℕ) → framesIn (callsFrom memory commands n k) ≡ sum n (λ i. framesOf (commandNo commands (k + i)))
@@ -149,9 +146,12 @@ frames-from memory commands (suc n) k =
     sum-ext n (λ i. f (suc k + i)) (λ i. f (k + suc i)) (λ i h. ap f (omega arith)) in
     omega (arith, here, frames-of-command memory (commandNo commands k), frames-from memory commands n (suc k), first, others, sum-first n (λ i. f (k + i)))
 
-pub frames-counted : (memory commands : List ℕ) → scoreFrames commands ≡ framesIn (scoreCalls memory commands)
-unfolding scoreFrames
-frames-counted memory commands =
+all-counted : (memory commands : List ℕ) → allFrames commands ≡ framesIn (allCalls memory commands)
+unfolding allFrames
+all-counted memory commands =
     sum-ext (commandCount commands) (λ k. framesOf (commandNo commands k)) (λ i. framesOf (commandNo commands (0 + i)))
     (λ i h. ap (λ (j : ℕ). framesOf (commandNo commands j)) (sym (zero-add i)))
     ∙ sym (frames-from memory commands (commandCount commands) 0)
+
+pub frames-counted : (memory score : List ℕ) → scoreFrames score ≡ framesIn (scoreCalls memory score)
+frames-counted memory score = all-counted memory (commandsOf score)

@@ -1,4 +1,4 @@
--- A score played, a number of calls at a time.
+-- A score played, a number of calls at a time; its commands are in full.
 -- In order: the calls that are left at a place of the score; frames and refusals of a run; what is heard of it; what one call comes to; what some do.
 -- Assumes nothing.
 use Prim.Native.Nat.{ℕ, _+_, _*_, _/_, _-_, _≤_, _<_}
@@ -10,8 +10,9 @@ use Rattle.layout.specs.Parts.{withPart}
 use Rattle.answer.specs.Answer.{isDone}
 use Rattle.answer.specs.declared.Answer.{Answer}
 use Rattle.calls.specs.Calls.{Call, Reset, Write, Read, SetPot, Waiting, Frame, answerTo, after, outputFrom, run, answers, outputs}
-use Rattle.scores.specs.Score.{callsFrom, commandNo, commandCount}
-use Rattle.scores.specs.Sound.{sampleBytes, soundOf}
+use Rattle.repeats.specs.Repeats.{commandCount}
+use Rattle.scores.specs.Score.{callsFrom, commandNo}
+use Rattle.scores.specs.Sound.{SAMPLE_BYTES, sampleBytes, soundOf}
 use Rattle.scores.specs.declared.Made.{Made}
 use Rattle.scores.specs.declared.Played.{Played}
 
@@ -57,15 +58,15 @@ pub record Makes (m : List ℕ) (c : Call) (sound : List ℕ) (at : ℕ) (r : Ma
 -- ---- as many calls as the sound has room for, from a place of the score on; fewer only where no command is left
 
 abbrev pub nextCalls : List ℕ → List ℕ → ℕ → ℕ → List ℕ → List Call
-nextCalls memory commands k made sound = take (length sound / 4) (leftFrom memory commands k made)
+nextCalls memory commands k made sound = take (length sound / SAMPLE_BYTES) (leftFrom memory commands k made)
 
 pub record Plays (m memory commands : List ℕ) (k made : ℕ) (sound : List ℕ) (r : Played) (later heard : List ℕ) : Type 0 where
   pub leaves : later ≡ run m (nextCalls memory commands k made sound)
   pub counts : r .frames ≡ framesIn (nextCalls memory commands k made sound)
   pub refuses : r .refused ≡ refusals (answers m (nextCalls memory commands k made sound))
-  pub hears : take (4 * r .frames) heard ≡ heardFrom m (nextCalls memory commands k made sound)
-  pub stays : drop (4 * r .frames) heard ≡ drop (4 * r .frames) sound
-  pub goes : leftFrom memory commands (r .command) (r .made) ≡ drop (length sound / 4) (leftFrom memory commands k made)
-  pub fits : 4 * r .frames ≤ length sound
+  pub hears : take (SAMPLE_BYTES * r .frames) heard ≡ heardFrom m (nextCalls memory commands k made sound)
+  pub stays : drop (SAMPLE_BYTES * r .frames) heard ≡ drop (SAMPLE_BYTES * r .frames) sound
+  pub goes : leftFrom memory commands (r .command) (r .made) ≡ drop (length sound / SAMPLE_BYTES) (leftFrom memory commands k made)
+  pub fits : SAMPLE_BYTES * r .frames ≤ length sound
   pub within : r .made ≤ commandNo commands (r .command) .times
-  pub full : r .command < commandCount commands → length sound / 4 ≤ length (leftFrom memory commands k made)
+  pub full : r .command < commandCount commands → length sound / SAMPLE_BYTES ≤ length (leftFrom memory commands k made)

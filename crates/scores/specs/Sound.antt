@@ -19,6 +19,9 @@ unfoldable pub heardOf : ℤ → ℤ
 heardOf sum = held (minus 32768) (pos 32767) (floorDiv sum 16)
 
 -- left, then right, two bytes each, the low one first
+abbrev pub SAMPLE_BYTES : ℕ
+SAMPLE_BYTES = 4
+
 unfoldable pub sampleBytes : List ℤ → List ℕ
 sampleBytes values = littleBytes 2 (word 16 (heardOf (sideOf 0 values))) ++ littleBytes 2 (word 16 (heardOf (sideOf 1 values)))
 

@@ -1,32 +1,42 @@
 // A score: sample memory, and commands that ask for calls on one machine; and what is heard of it.
-// A score's first 8,192 bytes are 4,096 words of sample memory, the high byte first. Then come commands of six bytes: a kind, a number of four bytes,
+// A score's first 8,192 bytes are 4,096 words of sample memory, the high byte first. Then come commands of four bytes: a kind, a number of two bytes,
 // the high byte first, and one byte.
 //
 // kind 0: reset. 1: write the byte at the address that the number gives. 2: read there. 3: set the pot result to the number. 4: run a frame.
-// 5: ask which voices wait. 6: run as many frames as the number says.
+// 5: ask which voices wait. 6: run as many frames as the number says. 7: commands that stand before it, once more (`repeats`).
 //
-// In order: a command; the memory; how many frames there are; whether a score is good; what is heard of a frame; a score played.
+// In order: a command; the memory; how many frames there are; whether a score is good; what is heard of a frame; a score played. But for `fill` and
+// `judge`, which take a score, all is of commands in full, which `repeats::put_in_full` gives.
 ghost use mathlib.Core.Path.{_≡_};
 ghost use Prim.Native.Nat.{_+_, _*_, _/_, _≤_, _<_, _^_};
-ghost use lib.ListN.{length};
+ghost use lib.ListN.{length, take};
 ghost use lib.IntN.{_+ℤ_, natAbs};
 ghost use Rattle.numbers.specs.Numbers.{word, signed};
 ghost use mathlib.Core.Bool.{cond};
 ghost use Rattle.answer.specs.Answer.{isDone};
+ghost use Rattle.machine.specs.Words.{OUTPUT_VALUES};
 ghost use Rattle.calls.specs.Asks.{callOf};
-ghost use Rattle.scores.specs.Score.{Filled, repeated, commandOf, commandAt, commandNo, silence, isFrameAsk, framesOf, scoreFrames, commandCount, allKnown, verdictOf};
-ghost use Rattle.scores.specs.Sound.{heardOf, sampleBytes, loudestOf};
+ghost use Rattle.repeats.specs.Repeats.{COMMAND_BYTES};
+ghost use Rattle.scores.specs.Score.{MOST_FULL_BYTES, Filled, commandsOf, callTimes, commandOf, commandAt, commandNo, silence, isFrameAsk, framesOf, allFrames};
+ghost use Rattle.scores.specs.Score.{allBelow, commandsVerdict, verdictOf};
+ghost use Rattle.scores.specs.Sound.{SAMPLE_BYTES, heardOf, sampleBytes, loudestOf};
 ghost use Rattle.scores.specs.Playing.{Makes, Plays};
+ghost use Rattle.scores.specs.declared.Verdict.the-variants.{Good};
 use answer::Answer;
 use calls::Ask;
+use repeats::COMMAND_BYTES;
 
 pub const MEMORY_WORDS: usize = 4096;
 
 pub const MEMORY_BYTES: usize = 8192;
 
-pub const COMMAND_BYTES: usize = 6;
-
 pub const MOST_BYTES: usize = 65536;
+
+// Of 65,536 commands in full.
+pub const MOST_FULL_BYTES: usize = 262144;
+
+// Kinds 0 to 6 are calls, and 7 repeats commands.
+const KINDS: u8 = 8;
 
 // Of what is heard of a frame, left and right.
 pub const SAMPLE_BYTES: usize = 4;
@@ -41,33 +51,33 @@ pub struct Command {
     pub times: u32,
 }
 
-// The command whose six bytes begin at `at`.
+// The command whose bytes begin at `at`.
 pub fn command_at(commands: &[u8], at: usize) -> Command
-    requires { ⌜ at + 6 ≤ length (now commands) ⌝ }
+    requires { ⌜ at + COMMAND_BYTES ≤ length (now commands) ⌝ }
     ensures { λ r. ⌜ r ≡ commandAt (now (commands .entry)) at ⌝ }
 {
-    let n = layout::big4_at(commands, at + 1);
-    command_of(commands[at], n, commands[at + 5])
+    let n = layout::big2_at(commands, at + 1) as u32;
+    command_of(commands[at], n, commands[at + 3])
 }
 
-// A command of another kind makes no call.
+// A command of another kind makes no call, and neither does a repeat that stands for itself.
 fn command_of(kind: u8, n: u32, byte: u8) -> Command
     ensures { λ r. ⌜ r ≡ commandOf kind n byte ⌝ }
 {
     match kind {
-        0 => repeated(Ask::Reset, 1),
-        1 => repeated(Ask::Write(n, byte), 1),
-        2 => repeated(Ask::Read(n), 1),
-        3 => repeated(Ask::SetPot(n), 1),
-        4 => repeated(Ask::Frame, 1),
-        5 => repeated(Ask::Waiting, 1),
-        6 => repeated(Ask::Frame, n),
-        _ => repeated(Ask::Frame, 0),
+        0 => call_times(Ask::Reset, 1),
+        1 => call_times(Ask::Write(n, byte), 1),
+        2 => call_times(Ask::Read(n), 1),
+        3 => call_times(Ask::SetPot(n), 1),
+        4 => call_times(Ask::Frame, 1),
+        5 => call_times(Ask::Waiting, 1),
+        6 => call_times(Ask::Frame, n),
+        _ => call_times(Ask::Frame, 0),
     }
 }
 
-fn repeated(ask: Ask, times: u32) -> Command
-    ensures { λ r. ⌜ r ≡ repeated ask times ⌝ }
+fn call_times(ask: Ask, times: u32) -> Command
+    ensures { λ r. ⌜ r ≡ callTimes ask times ⌝ }
 {
     Command {
         ask: ask,
@@ -75,7 +85,7 @@ fn repeated(ask: Ask, times: u32) -> Command
     }
 }
 
-pub fn is_frame(ask: Ask) -> bool
+fn is_frame(ask: Ask) -> bool
     ensures { λ r. ⌜ r ≡ isFrameAsk ask ⌝ }
 {
     match ask {
@@ -103,8 +113,8 @@ pub fn fill(memory: &mut [u16], score: &[u8])
 // ---- how many frames there are
 
 pub fn frames_of(commands: &[u8]) -> u64
-    requires { ⌜ length (now commands) ≤ 65536 ⌝ }
-    ensures { λ r. ⌜ r ≡ scoreFrames (now (commands .entry)) ⌝ }
+    requires { ⌜ length (now commands) ≤ MOST_FULL_BYTES ⌝ }
+    ensures { λ r. ⌜ r ≡ allFrames (now (commands .entry)) ⌝ }
 {
     let mut n = 0;
     for k in 0..commands.len() / COMMAND_BYTES {
@@ -128,16 +138,23 @@ pub enum Verdict {
     TooLong,
     // It ends before its sample memory does.
     NoMemory,
-    // Its last command has fewer than six bytes.
+    // Its last command has fewer than four bytes.
     Cut,
-    // A command's kind is none of 0 to 6.
+    // In full it has more commands than a score may have.
+    TooManyCommands,
+    // A command is of a kind that there is not.
     Unknown,
-    // It has more frames than a WAVE file holds.
+    // A repeat goes back past the first command, or asks for more than it goes back by.
+    NotThere,
+    // A WAVE file does not hold them.
     TooManyFrames,
 }
 
-pub fn judge(score: &[u8]) -> Verdict
+// Where the score is good, its commands stand in full at the start of `full` then.
+pub fn judge(score: &[u8], full: &mut [u8]) -> Verdict
+    requires { ⌜ length (now full) ≡ MOST_FULL_BYTES ⌝ }
     ensures { λ r. ⌜ r ≡ verdictOf (now (score .entry)) ⌝ }
+    ensures { λ _. ⌜ (verdictOf (now (score .entry)) ≡ Good → take (length (commandsOf (now (score .entry)))) (now (full .exit)) ≡ commandsOf (now (score .entry))) ⌝ }
 {
     let n = score.len();
     if MOST_BYTES < n {
@@ -149,23 +166,38 @@ pub fn judge(score: &[u8]) -> Verdict
     if (n - MEMORY_BYTES) % COMMAND_BYTES != 0 {
         return Verdict::Cut;
     }
-    if !all_known(&score[MEMORY_BYTES..]) {
+    if MOST_FULL_BYTES < repeats::full_bytes(&score[MEMORY_BYTES..]) {
+        return Verdict::TooManyCommands;
+    }
+    let bytes = repeats::put_in_full(&score[MEMORY_BYTES..], full);
+    judge_commands(&full[..bytes])
+}
+
+fn judge_commands(commands: &[u8]) -> Verdict
+    requires { ⌜ length (now commands) ≤ MOST_FULL_BYTES ⌝ }
+    ensures { λ r. ⌜ r ≡ commandsVerdict (now (commands .entry)) ⌝ }
+{
+    if !all_below(KINDS, commands) {
         return Verdict::Unknown;
     }
-    if MOST_FRAMES < frames_of(&score[MEMORY_BYTES..]) {
+    if !all_below(repeats::REPEAT, commands) {
+        return Verdict::NotThere;
+    }
+    if MOST_FRAMES < frames_of(commands) {
         return Verdict::TooManyFrames;
     }
     Verdict::Good
 }
 
-fn all_known(commands: &[u8]) -> bool
-    ensures { λ r. ⌜ r ≡ allKnown (now (commands .entry)) (commandCount (now (commands .entry))) ⌝ }
+// Whether each command is of a kind below this one.
+fn all_below(kind: u8, commands: &[u8]) -> bool
+    ensures { λ r. ⌜ r ≡ allBelow kind (now (commands .entry)) ⌝ }
 {
-    let mut known = true;
+    let mut below = true;
     for k in 0..commands.len() / COMMAND_BYTES {
-        known = known & (commands[COMMAND_BYTES * k] <= 6);
+        below = below & (commands[COMMAND_BYTES * k] < kind);
     }
-    known
+    below
 }
 
 // ---- what is heard of a frame
@@ -180,7 +212,7 @@ fn heard(a: i32, b: i32, c: i32, d: i32, e: i32, f: i32) -> u16
 
 // The four bytes of a frame's sound.
 fn sample_bytes(out: &[i32]) -> [u8; 4]
-    requires { ⌜ length (now out) ≡ 12 ⌝ }
+    requires { ⌜ length (now out) ≡ OUTPUT_VALUES ⌝ }
     ensures { λ r. ⌜ r ≡ sampleBytes (now (out .entry)) ⌝ }
 {
     let l = layout::little_bytes2(heard(out[0], out[2], out[4], out[6], out[8], out[10]));
@@ -216,14 +248,14 @@ fn magnitude(w: u16) -> u32
 // ---- a score played
 
 // What one call comes to: 1 where it was a frame, and 1 where it was refused.
-pub struct Made {
+struct Made {
     pub frames: usize,
     pub refused: usize,
 }
 
 // The call, made once; what is heard of it is put at `at`.
 fn make(m: &mut [u32], memory: &[u16], ask: Ask, sound: &mut [u8], at: usize) -> Made
-    requires { ⌜ at + 4 ≤ length (now sound) ⌝ }
+    requires { ⌜ at + SAMPLE_BYTES ≤ length (now sound) ⌝ }
     ensures { λ r. ⌜ Makes (now (m .entry)) (callOf ask (now (memory .entry)) silence) (now (sound .entry)) at r (now (m .exit)) (now (sound .exit)) ⌝ }
 {
     let mut out = [0i32; machine::OUTPUT_VALUES];

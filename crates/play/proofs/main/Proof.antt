@@ -1,11 +1,14 @@
--- `play::main` meets its contract: what it plays was judged to be good. Assumes nothing.
+-- `play::main` meets its contract: a score that is played is good, and its commands are put. Assumes nothing.
 use mathlib.Core.Path.{sym, _∙_}
 use borrow.Author.Needs.{needs}
 use Rattle.play.proofs.main.Statement.{statement}
 use Rattle.play.proofs.main.Tie as tie
 
-sound-requires : tie.Need-sound-requires
-sound-requires c κs = sym (c .before .before .before .judge .ensures) ∙ c .before .enum-told .given .1
+play-requires : tie.Need-play-requires
+play-requires c κs =
+    let j = c .before .before .before .before .before in
+    let good = sym (j .judge .ensures .0) ∙ c .before .before .enum-told .given .1 in
+    (good, search needs, j .judge .ensures .1 good)
 
 pub main-spec : {M : Type 1} → statement M
 main-spec =
@@ -15,29 +18,13 @@ main-spec =
     (λ c κs. search needs)
     (λ c. search needs)
     (λ c. search needs)
-    (λ c κs. search needs)
-    (λ c. search needs)
-    (λ c. search needs)
-    (λ c. search needs)
-    sound-requires
-    (λ c. search needs)
-    (λ c. search needs)
-    (λ c κs. search needs)
-    (λ c. search needs)
-    (λ c. search needs)
-    (λ c κs. search needs)
-    (λ c. search needs)
-    (λ c. search needs)
-    (λ c κs. search needs)
-    (λ c. search needs)
-    (λ c. search needs)
-    (λ c κs. search needs)
-    (λ c. search needs)
     (λ c. search needs)
     (λ c κs. search needs)
     (λ c. search needs)
     (λ c. search needs)
     (λ c. search needs)
     (λ c. search needs)
+    play-requires
+    (λ c κs. search needs)
     (λ c. search needs)
     (λ c. search needs))

@@ -9,7 +9,8 @@ use borrow.Author.Tests.{lt-ltb, ltb-true}
 use lib.Dec.{ltb}
 use lib.ListN.{length, length-drop}
 use Rattle.numbers.proofs.Tests.{split}
-use Rattle.scores.specs.Score.{commandNo, commandCount}
+use Rattle.repeats.specs.Repeats.{commandCount}
+use Rattle.scores.specs.Score.{commandNo}
 use Rattle.scores.specs.Playing.{leftFrom, Plays}
 use Rattle.scores.specs.declared.Played.{Played}
 use Rattle.play.proofs.render.Statement.{statement}

@@ -7,31 +7,31 @@ use Rattle.scores.proofs.command_of.Tie as tie
 
 returns : tie.Need-returns
 unfolding commandOf
-returns c = rw (c .before .match .keys1) (c .repeated .ensures)
+returns c = rw (c .before .match .keys1) (c .call-times .ensures)
 
 returns-2 : tie.Need-returns-2
 unfolding commandOf
-returns-2 c = rw (c .before .match .keys2) (c .repeated2 .ensures)
+returns-2 c = rw (c .before .match .keys2) (c .call-times2 .ensures)
 
 returns-3 : tie.Need-returns-3
 unfolding commandOf
-returns-3 c = rw (c .before .match .keys3) (c .repeated3 .ensures)
+returns-3 c = rw (c .before .match .keys3) (c .call-times3 .ensures)
 
 returns-4 : tie.Need-returns-4
 unfolding commandOf
-returns-4 c = rw (c .before .match .keys4) (c .repeated4 .ensures)
+returns-4 c = rw (c .before .match .keys4) (c .call-times4 .ensures)
 
 returns-5 : tie.Need-returns-5
 unfolding commandOf
-returns-5 c = rw (c .before .match .keys5) (c .repeated5 .ensures)
+returns-5 c = rw (c .before .match .keys5) (c .call-times5 .ensures)
 
 returns-6 : tie.Need-returns-6
 unfolding commandOf
-returns-6 c = rw (c .before .match .keys6) (c .repeated6 .ensures)
+returns-6 c = rw (c .before .match .keys6) (c .call-times6 .ensures)
 
 returns-7 : tie.Need-returns-7
 unfolding commandOf
-returns-7 c = rw (c .before .match .keys7) (c .repeated7 .ensures)
+returns-7 c = rw (c .before .match .keys7) (c .call-times7 .ensures)
 
 returns-8 : tie.Need-returns-8
 unfolding commandOf
@@ -45,7 +45,7 @@ returns-8 c =
       ne-eqb _ _ (r .0 .0 .1),
       ne-eqb _ _ (r .0 .1),
       ne-eqb _ _ (r .1),
-    ) (c .repeated8 .ensures)
+    ) (c .call-times8 .ensures)
 
 pub command-of-spec : {M : Type 1} → statement M
 command-of-spec =

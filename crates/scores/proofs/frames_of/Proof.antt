@@ -1,20 +1,21 @@
 -- `scores::frames_of` meets its contract. The loop's invariant: the frames of the commands that were passed, less than 2 ^ 32 for each. Assumes nothing.
 use mathlib.Core.Path.{_≡_, refl, ap, _∙_}
 use mathlib.Core.List.{List}
-use Prim.Native.Nat.{ℕ, _+_, _-_, _*_, _/_, _≤_}
+use Prim.Native.Nat.{ℕ, _+_, _-_, _*_, _≤_}
 use native.Mathlib.Numerals.{add-one}
 use native.Mathlib.Omega.{arith}
 use borrow.Author.Needs.{needs}
 use lib.ListN.{length}
 use Rattle.numbers.specs.Sum.{sum}
-use Rattle.scores.specs.Score.{commandNo, framesOf, scoreFrames}
+use Rattle.repeats.specs.Repeats.{commandCount}
+use Rattle.scores.specs.Score.{MOST_FULL_BYTES, commandNo, framesOf, allFrames}
 use Rattle.scores.specs.declared.Command.{Command}
 use Rattle.scores.proofs.frames_of.Statement.{statement}
 use Rattle.scores.proofs.frames_of.Tie as tie
 
 abbrev Inv-loop : tie.InvT-loop
 Inv-loop commands n₀ k₀ k-end n k =
-    (n ≡ sum k (λ j. framesOf (commandNo commands j))) × (n ≤ k * 4294967296) × (k ≤ k-end) × (k-end ≡ length commands / 6) × (length commands ≤ 65536)
+    (n ≡ sum k (λ j. framesOf (commandNo commands j))) × (n ≤ k * 4294967296) × (k ≤ k-end) × (k-end ≡ commandCount commands) × (length commands ≤ MOST_FULL_BYTES)
 
 abbrev μ-loop : tie.MeasureT-loop
 μ-loop commands n₀ k₀ k-end n k = k-end - k
@@ -42,11 +43,11 @@ loop-again c =
     )
 
 returns : tie.Need-returns Inv-loop μ-loop
-unfolding scoreFrames
+unfolding allFrames
 returns c =
     let l = c .before .loop in
     let commands = c .before .before .before .args .commands .now in
-    let e : l .k ≡ length commands / 6 = omega (arith, l .inv .3, l .inv .2) in
+    let e : l .k ≡ commandCount commands = omega (arith, l .inv .3, l .inv .2) in
     l .inv .0 ∙ ap (λ (k : ℕ). sum k (λ j. framesOf (commandNo commands j))) e
 
 pub frames-of-spec : {M : Type 1} → statement M

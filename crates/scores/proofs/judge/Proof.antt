@@ -1,91 +1,129 @@
 -- `scores::judge` meets its contract: each return is the definition's case. Assumes nothing.
 use mathlib.Core.Path.{_≡_, refl, sym, ap, _∙_}
-use mathlib.Core.Bool.{Bool, true, false, not, false≢true, true≢false}
 use mathlib.Core.List.{List}
 use Prim.Native.Nat.{ℕ, _-_, _%_, _≤_, _<_}
+use native.Mathlib.Omega.{arith}
 use borrow.Author.Needs.{needs}
 use borrow.Author.Tests.{lt-ltb, le-ltb, ne-eqb, eq-eqb}
-use lib.ListN.{length, take, drop}
-use Rattle.scores.specs.Score.{verdictOf, allKnown, commandCount, scoreFrames}
-use Rattle.scores.specs.declared.Verdict.the-variants.{Good, Unknown, TooManyFrames}
-use Rattle.scores.proofs.Judged.{part-is}
+use lib.ListN.{length, take, drop, length-drop}
+use lib.Seq.{length-take-le}
+use Rattle.layout.specs.Parts.{withPart}
+use Rattle.layout.proofs.Parts.{with-first}
+use Rattle.repeats.specs.Repeats.{COMMAND_BYTES, inFull}
+use Rattle.scores.specs.Score.{MOST_BYTES, MEMORY_BYTES, MOST_FULL_BYTES, commandsOf, commandsVerdict, verdictOf}
+use Rattle.scores.specs.declared.Verdict.the-variants.{TooLong, NoMemory, Cut, TooManyCommands}
+use Rattle.scores.proofs.Judged.{part-is, isGood, not-good}
 use Rattle.scores.proofs.judge.Statement.{statement}
 use Rattle.scores.proofs.judge.Tie as tie
 
 returns : tie.Need-returns
-unfolding verdictOf
-returns c = rw (lt-ltb 65536 (length (c .before .before .args .score .now)) (c .if1 .taken))
+unfolding verdictOf isGood
+returns c =
+    let score = c .before .before .before .args .score .now in
+    let v : TooLong ≡ verdictOf score = rw (lt-ltb MOST_BYTES (length score) (c .if1 .taken)) in
+    (v, not-good TooLong (verdictOf score) refl v)
 
 returns-2 : tie.Need-returns-2
-unfolding verdictOf
+unfolding verdictOf isGood
 returns-2 c =
-    let score = c .before .before .before .args .score .now in
-    rw (le-ltb 65536 (length score) (c .before .if1 .left), lt-ltb (length score) 8192 (c .if2 .taken))
+    let score = c .before .before .before .before .args .score .now in
+    let v : NoMemory ≡ verdictOf score = rw (le-ltb MOST_BYTES (length score) (c .before .if1 .left), lt-ltb (length score) MEMORY_BYTES (c .if2 .taken)) in
+    (v, not-good NoMemory (verdictOf score) refl v)
 
 returns-3 : tie.Need-returns-3
-unfolding verdictOf
+unfolding verdictOf isGood
 returns-3 c =
-    let score = c .before .before .before .before .args .score .now in
-    rw (le-ltb 65536 (length score) (c .before .before .if1 .left), le-ltb (length score) 8192 (c .before .if2 .left), ne-eqb _ _ (c .if3 .taken))
+    let score = c .before .before .before .before .before .args .score .now in
+    let v : Cut ≡ verdictOf score =
+    rw (le-ltb MOST_BYTES (length score) (c .before .before .if1 .left), le-ltb (length score) MEMORY_BYTES (c .before .if2 .left), ne-eqb _ _ (c .if3 .taken)) in
+    (v, not-good Cut (verdictOf score) refl v)
 
-module _ (score : List ℕ) (short : length score ≤ 65536) (long : 8192 ≤ length score) (whole : (length score - 8192) % 6 ≡ 0) where
-  known-is : (b : Bool) → b ≡ allKnown (take (length score - 8192) (drop 8192 score)) (commandCount (take (length score - 8192) (drop 8192 score)))
-      → b ≡ allKnown (drop 8192 score) (commandCount (drop 8192 score))
-  known-is b e = e ∙ ap (λ (xs : List ℕ). allKnown xs (commandCount xs)) (part-is score)
+module _ (score : List ℕ) (short : length score ≤ MOST_BYTES) (long : MEMORY_BYTES ≤ length score) (whole : (length score - MEMORY_BYTES) % COMMAND_BYTES ≡ 0) (n : ℕ)
+    (e : n ≡ length (inFull (take (length score - MEMORY_BYTES) (drop MEMORY_BYTES score)))) where
+  bytes-are : length (commandsOf score) ≡ n
+  bytes-are = sym (e ∙ ap (λ (xs : List ℕ). length (inFull xs)) (part-is score))
 
-  unknown : allKnown (drop 8192 score) (commandCount (drop 8192 score)) ≡ false → Unknown ≡ verdictOf score
+  too-many : MOST_FULL_BYTES < n → TooManyCommands ≡ verdictOf score
   unfolding verdictOf
-  unknown e = rw (le-ltb 65536 (length score) short, le-ltb (length score) 8192 long, eq-eqb _ _ whole, e)
+  too-many h = rw (le-ltb MOST_BYTES (length score) short, le-ltb (length score) MEMORY_BYTES long, eq-eqb _ _ whole, bytes-are, lt-ltb MOST_FULL_BYTES n h)
 
-  module _ (known : allKnown (drop 8192 score) (commandCount (drop 8192 score)) ≡ true) (n : ℕ) (e : n ≡ scoreFrames (take (length score - 8192) (drop 8192 score))) where
-    frames-are : scoreFrames (drop 8192 score) ≡ n
-    frames-are = sym (e ∙ ap scoreFrames (part-is score))
-
-    too-many : 1073741814 < n → TooManyFrames ≡ verdictOf score
-    unfolding verdictOf
-    too-many h = rw (le-ltb 65536 (length score) short, le-ltb (length score) 8192 long, eq-eqb _ _ whole, known, frames-are, lt-ltb 1073741814 n h)
-
-    good : n ≤ 1073741814 → Good ≡ verdictOf score
-    unfolding verdictOf
-    good h = rw (le-ltb 65536 (length score) short, le-ltb (length score) 8192 long, eq-eqb _ _ whole, known, frames-are, le-ltb 1073741814 n h)
-
-turned : (b : Bool) → not b ≡ true → b ≡ false
-turned true e = absurd (false≢true e)
-turned false e = refl
-
-kept : (b : Bool) → not b ≡ false → b ≡ true
-kept true e = refl
-kept false e = absurd (true≢false e)
+  not-too-many : n ≤ MOST_FULL_BYTES → commandsVerdict (commandsOf score) ≡ verdictOf score
+  unfolding verdictOf
+  not-too-many h = rw (le-ltb MOST_BYTES (length score) short, le-ltb (length score) MEMORY_BYTES long, eq-eqb _ _ whole, bytes-are, le-ltb MOST_FULL_BYTES n h)
 
 returns-4 : tie.Need-returns-4
+unfolding isGood
 returns-4 c =
     let k = c .before in
     let w = k .before .before in
-    let score = w .before .before .before .before .args .score .now in
-    let e = known-is score (w .before .before .if1 .left) (w .before .if2 .left) (w .if3 .left) (k .all-known .result) (k .all-known .ensures) in
-    unknown score (w .before .before .if1 .left) (w .before .if2 .left) (w .if3 .left) (sym e ∙ turned (k .all-known .result) (c .if4 .taken))
+    let score = w .before .before .before .before .before .args .score .now in
+    let v = too-many score (w .before .before .if1 .left) (w .before .if2 .left) (w .if3 .left) (k .full-bytes .result) (k .full-bytes .ensures) (c .if4 .taken) in
+    (v, not-good TooManyCommands (verdictOf score) refl v)
 
--- what is known where the frames are counted
-known-here : (c : tie.After-frames-of) → c .before .before .before .all-known .result ≡ true
-known-here c = kept (c .before .before .before .all-known .result) (c .before .before .if4 .left)
+full-bytes-requires : tie.Need-full-bytes-requires
+full-bytes-requires c κs =
+    let w = c .before in
+    let score = w .before .before .before .before .before .args .score .now in
+    rw (part-is score, length-drop) (omega (arith, w .before .before .if1 .left))
+
+-- the commands are put in full
+module _ (e : tie.Else4) where
+  abbrev start : tie.Start
+  start = e .before .before .before .before .before .before .before .before
+
+  abbrev score : List ℕ
+  score = start .args .score .now
+
+  few : length (commandsOf score) ≤ MOST_FULL_BYTES
+  few = omega (arith, e .before .full-bytes .ensures, ap (λ (xs : List ℕ). length (inFull xs)) (part-is score), e .if4 .left)
+
+  judged : commandsVerdict (commandsOf score) ≡ verdictOf score
+  judged =
+      let w = e .before .before .before in
+      not-too-many score (w .before .before .if1 .left) (w .before .if2 .left) (w .if3 .left) (e .before .full-bytes .result) (e .before .full-bytes .ensures) (e .if4 .left)
+
+put-in-full-requires : tie.Need-put-in-full-requires
+put-in-full-requires c κs =
+    let e = c .before .before in
+    rw (part-is (score e)) (omega (arith, few e, start e .pre))
+
+module _ (c : tie.After-put-in-full) where
+  abbrev else4 : tie.Else4
+  else4 = c .before .before .before
+
+  bytes : c .put-in-full .result ≡ length (commandsOf (score else4))
+  bytes = c .put-in-full .ensures .0 ∙ ap (λ (xs : List ℕ). length (inFull xs)) (part-is (score else4))
+
+  first : take (length (commandsOf (score else4))) (c .put-in-full .last .1 .0) ≡ commandsOf (score else4)
+  first =
+      let full = start else4 .args .full .now in
+      ap (take (length (commandsOf (score else4)))) (c .put-in-full .ensures .1 ∙ ap (λ (xs : List ℕ). withPart full 0 (inFull xs)) (part-is (score else4)))
+      ∙ with-first full (commandsOf (score else4))
+
+  room : length (c .put-in-full .last .1 .0) ≡ MOST_FULL_BYTES
+  room = search (needs, start else4 .pre)
+
+  part-long : length (take (c .put-in-full .result) (c .put-in-full .last .1 .0)) ≡ c .put-in-full .result
+  part-long = length-take-le (c .put-in-full .result) (c .put-in-full .last .1 .0) (omega (arith, bytes, few else4, room))
+
+slice-reshare-prefix-judge-commands : tie.Need-slice-reshare-prefix-judge-commands
+slice-reshare-prefix-judge-commands c =
+    let p = c .before .before in
+    omega (arith, bytes p, few (else4 p), room p)
+
+slice-aggregate-judge-commands : tie.Need-slice-aggregate-judge-commands
+slice-aggregate-judge-commands c = sym (part-long (c .before .before .before))
+
+judge-commands-requires : tie.Need-judge-commands-requires
+judge-commands-requires c κs =
+    let p = c .before .before .before in
+    rw (part-long p) (omega (arith, bytes p, few (else4 p)))
 
 returns-5 : tie.Need-returns-5
 returns-5 c =
-    let f = c .before in
-    let k = f .before .before .before in
-    let w = k .before .before in
-    let score = w .before .before .before .before .args .score .now in
-    let e = known-is score (w .before .before .if1 .left) (w .before .if2 .left) (w .if3 .left) (k .all-known .result) (k .all-known .ensures) in
-    too-many score (w .before .before .if1 .left) (w .before .if2 .left) (w .if3 .left) (sym e ∙ known-here f) (f .frames-of .result) (f .frames-of .ensures) (c .if5 .taken)
-
-returns-6 : tie.Need-returns-6
-returns-6 c =
-    let f = c .before in
-    let k = f .before .before .before in
-    let w = k .before .before in
-    let score = w .before .before .before .before .args .score .now in
-    let e = known-is score (w .before .before .if1 .left) (w .before .if2 .left) (w .if3 .left) (k .all-known .result) (k .all-known .ensures) in
-    good score (w .before .before .if1 .left) (w .before .if2 .left) (w .if3 .left) (sym e ∙ known-here f) (f .frames-of .result) (f .frames-of .ensures) (c .if5 .left)
+    let p = c .before .before .before .before in
+    let e = else4 p in
+    (c .judge-commands .ensures ∙ ap commandsVerdict (ap (λ (n : ℕ). take n (p .put-in-full .last .1 .0)) (bytes p) ∙ first p) ∙ judged e, λ g. first p)
 
 pub judge-spec : {M : Type 1} → statement M
 judge-spec =
@@ -97,11 +135,14 @@ judge-spec =
     (λ c. search needs)
     (λ c. search needs)
     (λ c. search needs)
-    (λ c κs. search needs)
+    full-bytes-requires
     returns-4
     (λ c. search needs)
     (λ c. search needs)
     (λ c. search needs)
-    (λ c κs. search needs)
-    returns-5
-    returns-6)
+    put-in-full-requires
+    slice-reshare-prefix-judge-commands
+    slice-aggregate-judge-commands
+    judge-commands-requires
+    (λ c. search needs)
+    returns-5)

@@ -11,7 +11,9 @@ use lib.Dec.{ltb}
 use lib.ListN.{length}
 use Rattle.machine.proofs.Valid.{both}
 use Rattle.calls.specs.Calls.{Call}
-use Rattle.scores.specs.Score.{commandNo, commandCount}
+use Rattle.repeats.specs.Repeats.{commandCount}
+use Rattle.scores.specs.Score.{commandNo}
+use Rattle.scores.specs.Sound.{SAMPLE_BYTES}
 use Rattle.scores.specs.Playing.{leftFrom}
 use Rattle.scores.proofs.Making.{call-long}
 use Rattle.scores.proofs.Playing.{Going, begins, next, at-most-one, one-call, one-command, left-none, over, leaves-end, counts-end, refuses-end, hears-end, goes-end}
@@ -21,9 +23,9 @@ use Rattle.scores.proofs.play.Tie as tie
 
 abbrev Inv-loop : tie.InvT-loop
 Inv-loop m₀ memory commands command made sound₀ room count k₀ own₀ calls₀ frames₀ refused₀ m sound k own calls frames refused =
-    Going (length sound₀ / 4) (leftFrom memory commands command made) m₀ sound₀ (leftFrom memory commands k own) m sound calls frames refused
-    × (own ≤ commandNo commands k .times) × (calls ≤ room) × (length m ≡ length m₀) × (length sound ≡ length sound₀) × (room ≡ length sound₀ / 4)
-    × (count ≡ length commands / 6)
+    Going (length sound₀ / SAMPLE_BYTES) (leftFrom memory commands command made) m₀ sound₀ (leftFrom memory commands k own) m sound calls frames refused
+    × (own ≤ commandNo commands k .times) × (calls ≤ room) × (length m ≡ length m₀) × (length sound ≡ length sound₀) × (room ≡ length sound₀ / SAMPLE_BYTES)
+    × (count ≡ commandCount commands)
 
 abbrev μ-loop : tie.MeasureT-loop
 μ-loop m₀ memory commands command made sound₀ room count k₀ own₀ calls₀ frames₀ refused₀ m sound k own calls frames refused =
@@ -45,11 +47,11 @@ other-is-over false b e t = refl
 
 -- the loop's test
 on : (c : tie.In-loop Inv-loop μ-loop)
-    → (c .before .loop .calls < length (c .before .before .before .before .before .before .args .sound .now) / 4) × (c .before .loop .k < commandCount (c .before .before .before .before .before .before .args .commands .now))
+    → (c .before .loop .calls < length (c .before .before .before .before .before .before .args .sound .now) / SAMPLE_BYTES) × (c .before .loop .k < commandCount (c .before .before .before .before .before .before .args .commands .now))
 on c =
     let l = c .before .loop in
     let s = c .before .before .before .before .before .before in
-    let t = both (ltb (l .calls) (length (s .args .sound .now) / 4)) (ltb (l .k) (length (s .args .commands .now) / 6)) (c .loop-test .taken) in
+    let t = both (ltb (l .calls) (length (s .args .sound .now) / SAMPLE_BYTES)) (ltb (l .k) (commandCount (s .args .commands .now))) (c .loop-test .taken) in
     (ltb-true _ _ (t .0), ltb-true _ _ (t .1))
 
 loop-again : tie.Need-loop-again Inv-loop μ-loop
@@ -62,7 +64,7 @@ loop-again c =
     let s = i .before .before .before .before .before .before in
     let h = on i in
     let q = one-call (s .args .memory .now) (s .args .commands .now) (l .k) (l .own) (ca .command-at .result) (ca .command-at .ensures) (h .1) (t .if1 .taken) in
-    let g = subst (λ (cs : List Call). Going (length (s .args .sound .now) / 4) (leftFrom (s .args .memory .now) (s .args .commands .now) (s .args .command) (s .args .made)) (s .args .m .now) (s .args .sound .now) cs (l .m) (l .sound) (l .calls) (l .frames) (l .refused)) q (l .inv .0) in
+    let g = subst (λ (cs : List Call). Going (length (s .args .sound .now) / SAMPLE_BYTES) (leftFrom (s .args .memory .now) (s .args .commands .now) (s .args .command) (s .args .made)) (s .args .m .now) (s .args .sound .now) cs (l .m) (l .sound) (l .calls) (l .frames) (l .refused)) q (l .inv .0) in
     let n = next g (h .0) (omega arith) (call-long (ca .command-at .result .ask) (s .args .memory .now)) (mk .make .ensures) in
     let o : l .own < commandNo (s .args .commands .now) (l .k) .times = subst (λ (x : Command). l .own < x .times) (ca .command-at .ensures) (t .if1 .taken) in
     (n, omega arith, omega (arith, h .0), search needs, n .long, refl, refl)
@@ -75,7 +77,7 @@ loop-again-2 c =
     let s = i .before .before .before .before .before .before in
     let h = on i in
     let q = one-command (s .args .memory .now) (s .args .commands .now) (l .k) (l .own) (ca .command-at .result) (ca .command-at .ensures) (h .1) (l .inv .1) (c .if1 .left) in
-    let g = subst (λ (cs : List Call). Going (length (s .args .sound .now) / 4) (leftFrom (s .args .memory .now) (s .args .commands .now) (s .args .command) (s .args .made)) (s .args .m .now) (s .args .sound .now) cs (l .m) (l .sound) (l .calls) (l .frames) (l .refused)) q (l .inv .0) in
+    let g = subst (λ (cs : List Call). Going (length (s .args .sound .now) / SAMPLE_BYTES) (leftFrom (s .args .memory .now) (s .args .commands .now) (s .args .command) (s .args .made)) (s .args .m .now) (s .args .sound .now) cs (l .m) (l .sound) (l .calls) (l .frames) (l .refused)) q (l .inv .0) in
     (g, omega arith, l .inv .2, l .inv .3, l .inv .4, refl, refl)
 
 returns : tie.Need-returns Inv-loop μ-loop
@@ -83,10 +85,10 @@ returns c =
     let l = c .before .loop in
     let s = c .before .before .before .before .before .before in
     let commands = s .args .commands .now in
-    let room = length (s .args .sound .now) / 4 in
+    let room = length (s .args .sound .now) / SAMPLE_BYTES in
     let left = leftFrom (s .args .memory .now) commands (l .k) (l .own) in
     let none : l .calls < room → left ≡ [] =
-    λ h. left-none (s .args .memory .now) commands (l .k) (l .own) (ltb-false _ _ (one-is-over (ltb (l .calls) room) (ltb (l .k) (length commands / 6)) (c .loop-test .left) (lt-ltb (l .calls) room h))) in
+    λ h. left-none (s .args .memory .now) commands (l .k) (l .own) (ltb-false _ _ (one-is-over (ltb (l .calls) room) (ltb (l .k) (length commands / 4)) (c .loop-test .left) (lt-ltb (l .calls) room h))) in
     let o = over room (l .calls) left none in
     let g = l .inv .0 in
     record {
@@ -96,7 +98,7 @@ returns c =
       hears = hears-end g (o .0) (o .1);
       stays = g .stays;
       goes = goes-end g (o .0) (o .1);
-      full = λ h. omega (arith, g .sum, ltb-false (l .calls) room (other-is-over (ltb (l .calls) room) (ltb (l .k) (length commands / 6)) (c .loop-test .left) (lt-ltb (l .k) (length commands / 6) h)));
+      full = λ h. omega (arith, g .sum, ltb-false (l .calls) room (other-is-over (ltb (l .calls) room) (ltb (l .k) (length commands / 4)) (c .loop-test .left) (lt-ltb (l .k) (length commands / 4) h)));
       fits = omega (arith, g .frames-few, l .inv .2);
       within = l .inv .1;
     }
