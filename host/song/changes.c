@@ -264,23 +264,24 @@ static uint32_t longest_repeat(uint32_t one, uint32_t *back)
     return longest;
 }
 
+static struct command shorter[MOST_COMMANDS]; /* the same, with repeats */
+
 /* A repeat of one command would be no shorter than the command. */
-static uint32_t write_commands(void)
+static uint32_t shorten(void)
 {
-    uint32_t written = 0;
+    uint32_t count = 0;
     uint32_t i, more, back = 0;
 
-    for (i = 0; i < command_count; i += more, written++) {
+    for (i = 0; i < command_count; i += more, count++) {
         more = longest_repeat(i, &back);
         if (more > 1) {
-            put_command(REPEAT, back, more);
+            shorter[count] = (struct command){ REPEAT, back, more };
         } else {
             more = 1;
-            put_command(commands[i].kind, commands[i].number,
-                        commands[i].byte);
+            shorter[count] = commands[i];
         }
     }
-    return written;
+    return count;
 }
 
 static void gather_commands(const struct tempo *tempos)
@@ -307,14 +308,19 @@ static void gather_commands(const struct tempo *tempos)
 
 void write_score(const struct tempo *tempos)
 {
+    uint32_t count;
     uint32_t i;
 
+    gather_commands(tempos);
+    count = shorten();
+    if (SCORE_MEMORY + COMMAND_BYTES * count > MOST_BYTES) {
+        give_up("more bytes than a score may have");
+    }
     for (i = 0; i < SCORE_WORDS; i++) {
         put_number(memory[i], 2);
     }
-    gather_commands(tempos);
-    if (SCORE_MEMORY + COMMAND_BYTES * write_commands() > MOST_BYTES) {
-        give_up("more bytes than a score may have");
+    for (i = 0; i < count; i++) {
+        put_command(shorter[i].kind, shorter[i].number, shorter[i].byte);
     }
     if (fflush(stdout) != 0 || ferror(stdout)) {
         give_up("the score cannot be written");

@@ -13,7 +13,9 @@
 #include <stddef.h>
 #include <stdint.h>
 
-/* From REPEAT on, a kind is that of no call. */
+/* WRITE writes the byte at the address that the number gives, and READ reads
+   there; POT sets the pot result to the number; FRAMES runs as many frames as
+   the number says. From REPEAT on, a kind is that of no call. */
 enum kind {
     RESET, WRITE, READ, POT, FRAME, WAITING, FRAMES, REPEAT, KINDS
 };

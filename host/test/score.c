@@ -18,7 +18,6 @@
 #include "commands.h"
 #include "reference.h"
 
-#define MEMORY_WORDS SCORE_WORDS
 #define LAST_KIND    255u
 
 /* ==== the sample memory =================================================== */
@@ -155,10 +154,10 @@ static const uint32_t lowest[SET_WORDS] = {
 static const uint32_t ends[][SET_WORDS] = {
     { ALL_LOW | TO_CHANNEL(2), 0x0200,
       0xE000, 0, 0xE000, 0, 0, 0xFFFF, 0, 0xFFFF, 0,
-      0, 0xFFFFFF80, AT(MEMORY_WORDS - 3) },
+      0, 0xFFFFFF80, AT(SCORE_WORDS - 3) },
     { ALL_LOW | CR_DIR | TO_CHANNEL(3), 0x0355,
       0xE000, 0, 0xE000, 0, 0, 0xFFFF, 0, 0xFFFF, 0,
-      0, 0xFFFFFF80, AT(MEMORY_WORDS + 2) },
+      0, 0xFFFFFF80, AT(SCORE_WORDS + 2) },
     { ALL_LOW | CR_LEI | TO_CHANNEL(4), 0,
       0xE000, 0, 0xE000, 0, 0, 0xFFFF, 0, 0xFFFF, 0,
       0, 0xFFFFFF80, AT(BANK_WORDS - 1) },
@@ -558,7 +557,7 @@ static void put_memory(void)
 {
     uint32_t place;
 
-    for (place = 0; place < MEMORY_WORDS; place++) {
+    for (place = 0; place < SCORE_WORDS; place++) {
         put_number(sample_word(place), 2);
     }
 }
@@ -630,7 +629,7 @@ static void make_short(void)
 
 static unsigned char input[MOST_BYTES];
 static unsigned char full[MOST_COMMANDS * COMMAND_BYTES];
-static uint16_t memory[MEMORY_WORDS];
+static uint16_t memory[SCORE_WORDS];
 static uint32_t record[RECORD_WORDS];
 
 static void print_frame(void)
@@ -639,7 +638,7 @@ static void print_frame(void)
     uint32_t place;
     uint32_t missing;
     uint32_t answer = reference_frame(record, RECORD_WORDS, memory,
-                                      MEMORY_WORDS, output, OUTPUT_VALUES,
+                                      SCORE_WORDS, output, OUTPUT_VALUES,
                                       &missing);
 
     printf("%" PRIu32 " %" PRIu32, answer, missing);
@@ -727,7 +726,7 @@ static void play(void)
     if (commands > MOST_COMMANDS) {
         return;
     }
-    for (place = 0; place < MEMORY_WORDS; place++) {
+    for (place = 0; place < SCORE_WORDS; place++) {
         memory[place] = (uint16_t)number_of(input + 2 * place, 2);
     }
     /* No valid record: what is asked before a reset is refused. */

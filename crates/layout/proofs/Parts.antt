@@ -71,7 +71,7 @@ module _ {ℓ} {A : Type ℓ} where
         ∙ getD-drop (i + length ys) xs n d ∙ ap (λ (j : ℕ). getD xs j d) f
 
     -- up to its end
-    pub with-start : take (i + length ys) (withPart xs i ys) ≡ take i xs ++ ys
+    with-start : take (i + length ys) (withPart xs i ys) ≡ take i xs ++ ys
     with-start = ap (take (i + length ys)) seam ∙ take-at (take i xs ++ ys) (drop (i + length ys) xs) (i + length ys) start-long
 
     -- another part right after it is one longer part
@@ -88,7 +88,7 @@ module _ {ℓ} {A : Type ℓ} where
         ∙ ap (λ (l : List A). take i xs ++ l) (sym (append-assoc ys zs (drop (i + length (ys ++ zs)) xs))))
 
     -- and so is one element
-    pub put-more : (z : A) → i + length ys < length xs → set (withPart xs i ys) (i + length ys) z ≡ withPart xs i (ys ++ z ∷ [])
+    put-more : (z : A) → i + length ys < length xs → set (withPart xs i ys) (i + length ys) z ≡ withPart xs i (ys ++ z ∷ [])
     put-more z h =
         set-split (withPart xs i ys) (i + length ys) z (rw with-length h)
         ∙ rw (sym (add-one (i + length ys))) (with-more (z ∷ []))

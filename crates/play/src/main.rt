@@ -54,7 +54,7 @@ fn complain(text: &[u8]) {
     io::write_all(STDERR_FILENO, b"\n");
 }
 
-// The head of the file, and then the sound. The record is not valid at first, so that all that is asked before a reset is refused.
+// The head of the file, and then the sound.
 fn sound(score: &[u8], commands: &[u8])
     requires { ⌜ (verdictOf (now score) ≡ Good) × (now commands ≡ commandsOf (now score)) ⌝ }
 {
@@ -62,7 +62,7 @@ fn sound(score: &[u8], commands: &[u8])
     scores::fill(&mut memory, score);
     let frames = scores::frames_of(commands);
     put_head((scores::SAMPLE_BYTES as u64 * frames) as u32);
-    let mut m = [4294967295u32; machine::RECORD_WORDS];
+    let mut m = [scores::FIRST_WORD; machine::RECORD_WORDS];
     render(&mut m, &memory, commands, frames);
 }
 

@@ -37,9 +37,10 @@ backAt xs i = COMMAND_BYTES * numberAt xs i
 abbrev pub askedAt : List ℕ → ℕ → ℕ
 askedAt xs i = COMMAND_BYTES * byteAt xs i
 
--- whether the command at i repeats others: it asks for no more than it goes back by, and goes back no further than to the first
+-- whether the command at i, with n bytes in full before it, repeats others: it asks for no more than it goes back by, and goes back no further than
+-- to the first
 unfoldable pub repeatsAt : List ℕ → ℕ → ℕ → Bool
-repeatsAt xs i before = eqb (kindAt xs i) REPEAT && leb (askedAt xs i) (backAt xs i) && leb (backAt xs i) before
+repeatsAt xs i n = eqb (kindAt xs i) REPEAT && leb (askedAt xs i) (backAt xs i) && leb (backAt xs i) n
 
 -- what it stands for after others, which are in full: those that it repeats, or itself
 unfoldable pub standsFor : List ℕ → List ℕ → ℕ → List ℕ

@@ -24,7 +24,7 @@ fn main() {
     }
 }
 
-// Its commands in full. The record is not valid at first, so that all that is asked before a reset is refused.
+// Its commands in full, on a record that is not valid at first.
 fn play(score: &[u8], full: &mut [u8])
     requires { ⌜ (MEMORY_BYTES ≤ length (now score)) × (length (now score) ≤ MOST_BYTES) ⌝ }
 {
@@ -34,7 +34,7 @@ fn play(score: &[u8], full: &mut [u8])
     let n = repeats::put_in_full(&score[scores::MEMORY_BYTES..], full);
     let mut memory = [0u16; scores::MEMORY_WORDS];
     scores::fill(&mut memory, score);
-    let mut m = [4294967295u32; machine::RECORD_WORDS];
+    let mut m = [scores::FIRST_WORD; machine::RECORD_WORDS];
     obey_all(&mut m, &memory, &full[..n]);
 }
 

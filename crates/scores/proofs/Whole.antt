@@ -1,7 +1,8 @@
 -- A whole score: what is heard of it is heard of its parts, one after the other, wherever it is cut; how many bytes that is; and that its frames are
 -- counted right.
 -- In order: all frames of a score leave twelve values; two runs (`heard-both`); a score in two parts (`in-parts`), the first of which was played
--- (`part-heard`); two outcomes of playing one (`one-part`); a score's bytes (`heard-bytes`); its frames (`frames-counted`). Assumes nothing.
+-- (`part-heard`); two outcomes of playing one (`one-part`); all parts of a score (`score-heard`); its frames (`frames-counted`), and its bytes
+-- (`score-bytes`). Assumes nothing.
 use mathlib.Core.Path.{_≡_, refl, sym, ap, _∙_}
 use mathlib.Core.Bool.{Bool, true, false, cond}
 use mathlib.Core.List.{List, [], _∷_, _++_, append-assoc}
@@ -19,11 +20,11 @@ use Rattle.calls.specs.Asks.{callOf}
 use Rattle.repeats.specs.Repeats.{commandCount}
 use Rattle.scores.specs.Score.{silence, commandNo, callsOf, callsFrom, commandsOf, allCalls, scoreCalls, isFrameAsk, framesOf, allFrames, scoreFrames}
 use Rattle.scores.specs.Sound.{SAMPLE_BYTES, sampleBytes, soundOf}
-use Rattle.scores.specs.Playing.{leftFrom, isFrame, framesIn, heardFrom, heardAt, Plays}
+use Rattle.scores.specs.Playing.{leftFrom, isFrame, framesIn, heardFrom, firstRecord, scoreSound, heardAt, Plays, Part, PlaysAll, partsHeard}
 use Rattle.scores.specs.declared.Command.{Command}
 use Rattle.scores.specs.declared.Played.{Played}
 use Rattle.scores.proofs.Making.{asks-frame, Long, call-long}
-use Rattle.scores.proofs.Playing.{heard-cons}
+use Rattle.scores.proofs.Playing.{left-none, heard-cons}
 
 -- each call of a list
 abbrev AllLong : List Call → Type 0
@@ -103,6 +104,23 @@ module _ {m memory commands : List ℕ} {k made : ℕ} {sound : List ℕ} {r : P
         p .goes ∙ sym (q .goes),
       )
 
+-- all parts, from a place of the score on
+parts-heard : (ps : List Part) (m memory commands : List ℕ) (k made : ℕ) → PlaysAll m memory commands k made ps
+    → partsHeard ps ≡ heardFrom m (leftFrom memory commands k made)
+unfolding partsHeard
+parts-heard [] m memory commands k made none = sym (ap (heardFrom m) (left-none memory commands k made none) ∙ none-heard m)
+parts-heard (p ∷ ps) m memory commands k made plays =
+    ap (λ (l : List ℕ). take (SAMPLE_BYTES * p .played .frames) (p .heard) ++ l)
+    (parts-heard ps (p .later) memory commands (p .played .command) (p .played .made) (plays .1))
+    ∙ sym (part-heard (plays .0))
+
+-- and from its start on
+pub score-heard : (ps : List Part) (memory score : List ℕ) → PlaysAll firstRecord memory (commandsOf score) 0 0 ps → partsHeard ps ≡ scoreSound memory score
+score-heard ps memory score plays =
+    let e : commandCount (commandsOf score) - 0 ≡ commandCount (commandsOf score) = omega arith in
+    parts-heard ps firstRecord memory (commandsOf score) 0 0 plays
+    ∙ ap (λ (n : ℕ). heardFrom firstRecord (callsFrom memory (commandsOf score) n 0)) e
+
 -- four bytes a frame
 sound-bytes : (n : ℕ) (values : List ℤ) → length (soundOf n values) ≡ SAMPLE_BYTES * n
 unfolding soundOf sampleBytes littleBytes
@@ -111,7 +129,7 @@ sound-bytes (suc n) values =
     let e : SAMPLE_BYTES * suc n ≡ suc (suc (suc (suc (SAMPLE_BYTES * n)))) = omega arith in
     rw e (ap (λ (k : ℕ). suc (suc (suc (suc k)))) (sound-bytes n (drop OUTPUT_VALUES values)))
 
-pub heard-bytes : (m : List ℕ) (cs : List Call) → length (heardFrom m cs) ≡ SAMPLE_BYTES * framesIn cs
+heard-bytes : (m : List ℕ) (cs : List Call) → length (heardFrom m cs) ≡ SAMPLE_BYTES * framesIn cs
 unfolding heardFrom
 heard-bytes m cs = sound-bytes (framesIn cs) (outputs m cs)
 
@@ -155,3 +173,6 @@ all-counted memory commands =
 
 pub frames-counted : (memory score : List ℕ) → scoreFrames score ≡ framesIn (scoreCalls memory score)
 frames-counted memory score = all-counted memory (commandsOf score)
+
+pub score-bytes : (memory score : List ℕ) → length (scoreSound memory score) ≡ SAMPLE_BYTES * scoreFrames score
+score-bytes memory score = heard-bytes firstRecord (scoreCalls memory score) ∙ ap (λ (n : ℕ). SAMPLE_BYTES * n) (sym (frames-counted memory score))

@@ -1,17 +1,18 @@
 -- A score played, a number of calls at a time; its commands are in full.
--- In order: the calls that are left at a place of the score; frames and refusals of a run; what is heard of it; what one call comes to; what some do.
--- Assumes nothing.
+-- In order: the calls that are left at a place of the score; frames and refusals of a run; what is heard of it, and of a score; what one call comes
+-- to; what some do; all of them, in parts. Assumes nothing.
 use Prim.Native.Nat.{ℕ, _+_, _*_, _/_, _-_, _≤_, _<_}
 use mathlib.Core.Path.{_≡_}
 use mathlib.Core.Bool.{Bool, true, false, cond}
-use mathlib.Core.List.{List, [], _∷_}
-use lib.ListN.{length, take, drop}
+use mathlib.Core.List.{List, [], _∷_, _++_}
+use lib.ListN.{length, take, drop, replicate}
 use Rattle.layout.specs.Parts.{withPart}
 use Rattle.answer.specs.Answer.{isDone}
 use Rattle.answer.specs.declared.Answer.{Answer}
+use Rattle.machine.specs.Words.{RECORD_WORDS}
 use Rattle.calls.specs.Calls.{Call, Reset, Write, Read, SetPot, Waiting, Frame, answerTo, after, outputFrom, run, answers, outputs}
 use Rattle.repeats.specs.Repeats.{commandCount}
-use Rattle.scores.specs.Score.{callsFrom, commandNo}
+use Rattle.scores.specs.Score.{callsFrom, scoreCalls, commandNo}
 use Rattle.scores.specs.Sound.{SAMPLE_BYTES, sampleBytes, soundOf}
 use Rattle.scores.specs.declared.Made.{Made}
 use Rattle.scores.specs.declared.Played.{Played}
@@ -42,6 +43,14 @@ refusals (a ∷ rest) = cond (isDone a) 0 1 + refusals rest
 unfoldable pub heardFrom : List ℕ → List Call → List ℕ
 heardFrom m cs = soundOf (framesIn cs) (outputs m cs)
 
+-- The record that a score is played on is not valid: what is asked before a reset is refused.
+abbrev pub firstRecord : List ℕ
+firstRecord = replicate RECORD_WORDS 4294967295
+
+-- what is heard of a score, whose words of sample memory these are
+abbrev pub scoreSound : List ℕ → List ℕ → List ℕ
+scoreSound memory score = heardFrom firstRecord (scoreCalls memory score)
+
 -- ---- one call
 
 -- what is heard of it: four bytes of a frame, nothing of another
@@ -69,4 +78,22 @@ pub record Plays (m memory commands : List ℕ) (k made : ℕ) (sound : List ℕ
   pub goes : leftFrom memory commands (r .command) (r .made) ≡ drop (length sound / SAMPLE_BYTES) (leftFrom memory commands k made)
   pub fits : SAMPLE_BYTES * r .frames ≤ length sound
   pub within : r .made ≤ commandNo commands (r .command) .times
-  pub full : r .command < commandCount commands → length sound / SAMPLE_BYTES ≤ length (leftFrom memory commands k made)
+  pub ends : r .command < commandCount commands → length sound / SAMPLE_BYTES ≤ length (leftFrom memory commands k made)
+
+-- ---- a score in parts, one after the other, until no command is left
+
+-- what one part was lent for its sound, what it answered, and what it left of the record and in the sound
+pub record Part : Type 0 where
+  pub sound : List ℕ
+  pub played : Played
+  pub later : List ℕ
+  pub heard : List ℕ
+
+abbrev pub PlaysAll : List ℕ → List ℕ → List ℕ → ℕ → ℕ → List Part → Type 0
+PlaysAll m memory commands k made [] = commandCount commands ≤ k
+PlaysAll m memory commands k made (p ∷ ps) =
+    Plays m memory commands k made (p .sound) (p .played) (p .later) (p .heard) × PlaysAll (p .later) memory commands (p .played .command) (p .played .made) ps
+
+unfoldable pub partsHeard : List Part → List ℕ
+partsHeard [] = []
+partsHeard (p ∷ ps) = take (SAMPLE_BYTES * p .played .frames) (p .heard) ++ partsHeard ps

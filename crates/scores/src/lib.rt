@@ -9,13 +9,14 @@
 // `judge`, which take a score, all is of commands in full, which `repeats::put_in_full` gives.
 ghost use mathlib.Core.Path.{_≡_};
 ghost use Prim.Native.Nat.{_+_, _*_, _/_, _≤_, _<_, _^_};
-ghost use lib.ListN.{length, take};
+ghost use lib.ListN.{length};
 ghost use lib.IntN.{_+ℤ_, natAbs};
 ghost use Rattle.numbers.specs.Numbers.{word, signed};
 ghost use mathlib.Core.Bool.{cond};
 ghost use Rattle.answer.specs.Answer.{isDone};
 ghost use Rattle.machine.specs.Words.{OUTPUT_VALUES};
 ghost use Rattle.calls.specs.Asks.{callOf};
+ghost use Rattle.layout.specs.Parts.{withPart};
 ghost use Rattle.repeats.specs.Repeats.{COMMAND_BYTES};
 ghost use Rattle.scores.specs.Score.{MOST_FULL_BYTES, Filled, commandsOf, callTimes, commandOf, commandAt, commandNo, silence, isFrameAsk, framesOf, allFrames};
 ghost use Rattle.scores.specs.Score.{allBelow, commandsVerdict, verdictOf};
@@ -37,6 +38,9 @@ pub const MOST_FULL_BYTES: usize = 262144;
 
 // Kinds 0 to 6 are calls, and 7 repeats commands.
 const KINDS: u8 = 8;
+
+// Each word of the record that a score is played on: it is not valid, so that all that is asked before a reset is refused.
+pub const FIRST_WORD: u32 = 4294967295;
 
 // Of what is heard of a frame, left and right.
 pub const SAMPLE_BYTES: usize = 4;
@@ -150,11 +154,11 @@ pub enum Verdict {
     TooManyFrames,
 }
 
-// Where the score is good, its commands stand in full at the start of `full` then.
+// Where the score is good, its commands stand in full at the start of `full` then; else what stands there says nothing.
 pub fn judge(score: &[u8], full: &mut [u8]) -> Verdict
     requires { ⌜ length (now full) ≡ MOST_FULL_BYTES ⌝ }
     ensures { λ r. ⌜ r ≡ verdictOf (now (score .entry)) ⌝ }
-    ensures { λ _. ⌜ (verdictOf (now (score .entry)) ≡ Good → take (length (commandsOf (now (score .entry)))) (now (full .exit)) ≡ commandsOf (now (score .entry))) ⌝ }
+    ensures { λ _. ⌜ (verdictOf (now (score .entry)) ≡ Good → now (full .exit) ≡ withPart (now (full .entry)) 0 (commandsOf (now (score .entry)))) ⌝ }
 {
     let n = score.len();
     if MOST_BYTES < n {

@@ -11,6 +11,7 @@ use lib.ListN.{length, length-drop}
 use Rattle.numbers.proofs.Tests.{split}
 use Rattle.repeats.specs.Repeats.{commandCount}
 use Rattle.scores.specs.Score.{commandNo}
+use Rattle.scores.specs.Sound.{SAMPLE_BYTES}
 use Rattle.scores.specs.Playing.{leftFrom, Plays}
 use Rattle.scores.specs.declared.Played.{Played}
 use Rattle.play.proofs.render.Statement.{statement}
@@ -34,9 +35,9 @@ fewer m memory commands command made part r later heard l h p =
     rw (lt-ltb command (commandCount commands) h)
     (split _ (ltb (r .command) (commandCount commands))
     (λ t.
-    let e : length part / 4 ≡ 16384 = rw l (omega arith) in
-    let d : length (leftFrom memory commands (r .command) (r .made)) ≡ length (leftFrom memory commands command made) - length part / 4 = ap length (p .goes) ∙ length-drop (length part / 4) (leftFrom memory commands command made) in
-    rw t (omega (arith, d, e, p .full (ltb-true (r .command) (commandCount commands) t))))
+    let e : length part / SAMPLE_BYTES ≡ 16384 = rw l (omega arith) in
+    let d : length (leftFrom memory commands (r .command) (r .made)) ≡ length (leftFrom memory commands command made) - length part / SAMPLE_BYTES = ap length (p .goes) ∙ length-drop (length part / SAMPLE_BYTES) (leftFrom memory commands command made) in
+    rw t (omega (arith, d, e, p .ends (ltb-true (r .command) (commandCount commands) t))))
     (λ f. rw f (omega arith)))
 
 loop-less : tie.Need-loop-less Inv-loop μ-loop

@@ -1,18 +1,18 @@
 -- `repeats::put_in_full` meets its contract. The loop's invariant: the commands that were passed stand in full at the start. Assumes nothing.
 use mathlib.Core.Path.{_≡_, refl, ap, _∙_}
-use Prim.Native.Nat.{ℕ, _-_, _/_, _≤_}
+use Prim.Native.Nat.{ℕ, _-_, _≤_}
 use native.Mathlib.Omega.{arith}
 use borrow.Author.Needs.{needs}
 use lib.ListN.{length}
 use Rattle.layout.specs.Parts.{withPart}
-use Rattle.repeats.specs.Repeats.{fullTo}
+use Rattle.repeats.specs.Repeats.{commandCount, fullTo}
 use Rattle.repeats.proofs.Full.{put-bytes, put-fits, put-next}
 use Rattle.repeats.proofs.put_in_full.Statement.{statement}
 use Rattle.repeats.proofs.put_in_full.Tie as tie
 
 abbrev Inv-loop : tie.InvT-loop
 Inv-loop commands full₀ n₀ k₀ k-end full n k =
-    (n ≡ length (fullTo commands k)) × (full ≡ withPart full₀ 0 (fullTo commands k)) × (k ≤ k-end) × (k-end ≡ length commands / 4) × (length full ≡ length full₀)
+    (n ≡ length (fullTo commands k)) × (full ≡ withPart full₀ 0 (fullTo commands k)) × (k ≤ k-end) × (k-end ≡ commandCount commands) × (length full ≡ length full₀)
 
 abbrev μ-loop : tie.MeasureT-loop
 μ-loop commands full₀ n₀ k₀ k-end full n k = k-end - k
@@ -51,7 +51,7 @@ returns : tie.Need-returns Inv-loop μ-loop
 returns c =
     let l = c .before .loop in
     let a = c .before .before .before .before .args in
-    let e : l .k ≡ length (a .commands .now) / 4 = omega (arith, l .inv .3, l .inv .2) in
+    let e : l .k ≡ commandCount (a .commands .now) = omega (arith, l .inv .3, l .inv .2) in
     (l .inv .0 ∙ ap (λ (k : ℕ). length (fullTo (a .commands .now) k)) e, l .inv .1 ∙ ap (λ (k : ℕ). withPart (a .full .now) 0 (fullTo (a .commands .now) k)) e)
 
 pub put-in-full-spec : {M : Type 1} → statement M

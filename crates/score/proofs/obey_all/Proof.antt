@@ -1,13 +1,14 @@
 -- `score::obey_all` meets its contract: each command is whole. Assumes nothing.
 use mathlib.Core.Path.{_≡_}
-use Prim.Native.Nat.{_-_, _/_, _≤_}
+use Prim.Native.Nat.{_-_, _≤_}
 use borrow.Author.Needs.{needs}
 use lib.ListN.{length}
+use Rattle.repeats.specs.Repeats.{commandCount}
 use Rattle.score.proofs.obey_all.Statement.{statement}
 use Rattle.score.proofs.obey_all.Tie as tie
 
 abbrev Inv-loop : tie.InvT-loop
-Inv-loop m₀ memory commands k₀ k-end m k = (length m ≡ length m₀) × (k-end ≡ length commands / 4) × (k ≤ k-end)
+Inv-loop m₀ memory commands k₀ k-end m k = (length m ≡ length m₀) × (k-end ≡ commandCount commands) × (k ≤ k-end)
 
 abbrev μ-loop : tie.MeasureT-loop
 μ-loop m₀ memory commands k₀ k-end m k = k-end - k

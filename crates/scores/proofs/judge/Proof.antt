@@ -94,11 +94,8 @@ module _ (c : tie.After-put-in-full) where
   bytes : c .put-in-full .result ≡ length (commandsOf (score else4))
   bytes = c .put-in-full .ensures .0 ∙ ap (λ (xs : List ℕ). length (inFull xs)) (part-is (score else4))
 
-  first : take (length (commandsOf (score else4))) (c .put-in-full .last .1 .0) ≡ commandsOf (score else4)
-  first =
-      let full = start else4 .args .full .now in
-      ap (take (length (commandsOf (score else4)))) (c .put-in-full .ensures .1 ∙ ap (λ (xs : List ℕ). withPart full 0 (inFull xs)) (part-is (score else4)))
-      ∙ with-first full (commandsOf (score else4))
+  put : c .put-in-full .last .1 .0 ≡ withPart (start else4 .args .full .now) 0 (commandsOf (score else4))
+  put = c .put-in-full .ensures .1 ∙ ap (λ (xs : List ℕ). withPart (start else4 .args .full .now) 0 (inFull xs)) (part-is (score else4))
 
   room : length (c .put-in-full .last .1 .0) ≡ MOST_FULL_BYTES
   room = search (needs, start else4 .pre)
@@ -123,7 +120,9 @@ returns-5 : tie.Need-returns-5
 returns-5 c =
     let p = c .before .before .before .before in
     let e = else4 p in
-    (c .judge-commands .ensures ∙ ap commandsVerdict (ap (λ (n : ℕ). take n (p .put-in-full .last .1 .0)) (bytes p) ∙ first p) ∙ judged e, λ g. first p)
+    let all : take (p .put-in-full .result) (p .put-in-full .last .1 .0) ≡ commandsOf (score e) =
+    (λ i. take (bytes p i) (put p i)) ∙ with-first (start e .args .full .now) (commandsOf (score e)) in
+    (c .judge-commands .ensures ∙ ap commandsVerdict all ∙ judged e, λ g. put p)
 
 pub judge-spec : {M : Type 1} → statement M
 judge-spec =

@@ -88,7 +88,7 @@ returns c =
     let room = length (s .args .sound .now) / SAMPLE_BYTES in
     let left = leftFrom (s .args .memory .now) commands (l .k) (l .own) in
     let none : l .calls < room → left ≡ [] =
-    λ h. left-none (s .args .memory .now) commands (l .k) (l .own) (ltb-false _ _ (one-is-over (ltb (l .calls) room) (ltb (l .k) (length commands / 4)) (c .loop-test .left) (lt-ltb (l .calls) room h))) in
+    λ h. left-none (s .args .memory .now) commands (l .k) (l .own) (ltb-false _ _ (one-is-over (ltb (l .calls) room) (ltb (l .k) (commandCount commands)) (c .loop-test .left) (lt-ltb (l .calls) room h))) in
     let o = over room (l .calls) left none in
     let g = l .inv .0 in
     record {
@@ -98,7 +98,7 @@ returns c =
       hears = hears-end g (o .0) (o .1);
       stays = g .stays;
       goes = goes-end g (o .0) (o .1);
-      full = λ h. omega (arith, g .sum, ltb-false (l .calls) room (other-is-over (ltb (l .calls) room) (ltb (l .k) (length commands / 4)) (c .loop-test .left) (lt-ltb (l .k) (length commands / 4) h)));
+      ends = λ h. omega (arith, g .sum, ltb-false (l .calls) room (other-is-over (ltb (l .calls) room) (ltb (l .k) (commandCount commands)) (c .loop-test .left) (lt-ltb (l .k) (commandCount commands) h)));
       fits = omega (arith, g .frames-few, l .inv .2);
       within = l .inv .1;
     }
