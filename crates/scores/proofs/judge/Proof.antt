@@ -35,7 +35,11 @@ unfolding verdictOf isGood
 returns-3 c =
     let score = c .before .before .before .before .before .args .score .now in
     let v : Cut ≡ verdictOf score =
-    rw (le-ltb MOST_BYTES (length score) (c .before .before .if1 .left), le-ltb (length score) MEMORY_BYTES (c .before .if2 .left), ne-eqb _ _ (c .if3 .taken)) in
+    rw (
+      le-ltb MOST_BYTES (length score) (c .before .before .if1 .left),
+      le-ltb (length score) MEMORY_BYTES (c .before .if2 .left),
+      ne-eqb ((length score - MEMORY_BYTES) % COMMAND_BYTES) 0 (c .if3 .taken),
+    ) in
     (v, not-good Cut (verdictOf score) refl v)
 
 module _ (score : List ℕ) (short : length score ≤ MOST_BYTES) (long : MEMORY_BYTES ≤ length score) (whole : (length score - MEMORY_BYTES) % COMMAND_BYTES ≡ 0) (n : ℕ)
