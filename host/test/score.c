@@ -18,7 +18,7 @@
 #include "commands.h"
 #include "reference.h"
 
-#define LAST_KIND    255u
+#define LAST_KIND 255u
 
 /* ==== the sample memory =================================================== */
 
