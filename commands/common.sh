@@ -3,10 +3,10 @@
 #   work           a folder for files, which is gone at the end
 #   take MOST FILE..  the input into "$work/input": of FILE, or of standard input; at most so many bytes
 #   build          the program, proved and no older than its sources
-#   run            the program, under the kit's own emulator where the processor is not an x86-64
+#   run            the program
 #   put FILE       a file to standard output
 #   has_room       fails where no file can be written in the folder
-# The program is asked for by `rt check`, which proves and builds it anew where a source has changed.
+# The program is asked for by `rt run` on no input, which proves and builds it anew where a source has changed.
 
 fail() {
     echo "$name: $*" >&2
@@ -14,7 +14,8 @@ fail() {
 }
 
 here=$(CDPATH='' cd -- "$(dirname "$0")/.." && pwd -P)
-program=$here/target/bin/$crate
+folder=$here/crates/$crate
+program=$folder/out/$crate
 work=$(mktemp -d)
 trap 'rm -rf "$work"' EXIT
 trap 'exit 130' INT
@@ -42,25 +43,16 @@ take() {
 
 build() {
     command -v rt > /dev/null || fail "the kit's command rt is not on the path"
-    for folder in "$here/target" "$here/target/log" "$here/target/bin"; do
-        [ ! -e "$folder" ] || [ -w "$folder" ] || fail "$folder cannot be written, so it is not known whether the program is new"
-    done
+    [ -w "$folder" ] && { [ ! -e "$folder/out" ] || [ -w "$folder/out" ]; } || fail "$folder/out cannot be written, so it is not known whether the program is new"
     [ -x "$program" ] || echo "$name: the program is proved and built first" >&2
-    (cd "$here" && rt check "$crate" < /dev/null > "$work/log" 2>&1) || {
+    (cd "$folder" && rt run < /dev/null > "$work/log" 2>&1) || {
         cat "$work/log" >&2
         fail "the program could not be built"
     }
-    [ -x "$program" ] || fail "$program was taken away: remove $here/target, and it is built anew"
 }
 
 run() {
-    if [ "$(uname -m)" = x86_64 ]; then
-        "$program"
-    else
-        kit=$(dirname "$(dirname "$(rt doc)")")
-        tools=$kit/on/$(uname -m)/toolchain
-        "$tools/bin/qemu-x86_64" "$tools/lib/ld-linux-x86-64.so.2" --library-path "$tools/lib" "$program"
-    fi
+    "$program"
 }
 
 # A reader that has had enough, as `head`, is no fault.

@@ -5,10 +5,9 @@ use native.Mathlib.Omega.{arith}
 use lib.Dec.{lit<, lit≤}
 use lib.IntN.{ℤ, pos, ◌+ℤ◌, ◌-ℤ◌}
 use lib.Signed.{le_z, lt_z}
-use Rattle.numbers.specs.Numbers.{word}
 use Rattle.numbers.proofs.Tests.{either}
 use Rattle.numbers.proofs.Words.{word_lt}
-use Rattle.control.specs.Control.{flag_of, with_bit, STP0, LEI, LPE, BLE, IRQE, DIR, IRQ}
+use Rattle.control.specs.Control.{flag_of, with_bit, LEI, LPE, BLE, IRQE, DIR, IRQ}
 use Rattle.control.proofs.Bits.{put_small}
 use Rattle.address.specs.declared.Place.{Place}
 use Rattle.address.specs.Address.{raised, forward, reverse, stepped}

@@ -1,5 +1,7 @@
 // The address step of a running voice: ACCUM moves by FC, and a loop point that it passes makes a loop event.
 // Targets are `i64`, so that a step past either end of the 32 bits is seen before it wraps.
+#![tactic(auto)]
+
 ghost use Rattle.std.specs.Prelude.{◌≡◌, ◌<◌, ◌≤◌};
 ghost use Rattle.numbers.specs.Numbers.{Within, word};
 ghost use Rattle.address.specs.Address.{raised, stepped};
@@ -7,7 +9,7 @@ ghost use Rattle.address.specs.Address.{forward as Address-as-forward, reverse a
 ghost use Rattle.address.specs.Event.{event as Event-as-event};
 
 // What the step changes.
-#[derive(Drop)]
+#[derive(Clone, Copy)]
 pub struct Place {
     pub accum: u32,
     pub cr: u32,

@@ -3,7 +3,6 @@ use Rattle.std.specs.Prelude.{ℕ, ◌≡◌, List, ℤ}
 use Rattle.answer.specs.declared.Answer.{Answer}
 use Rattle.calls.specs.Calls.{Call, Reset, Write, Read, SetPot, Waiting, Frame, answer_to, after, given_by, output_from}
 use Rattle.calls.specs.declared.Ask.{Ask}
-use Rattle.calls.specs.declared.Ask.TheVariants as Ask
 
 abbrev pub call_of : Ask → List ℕ → List ℤ → Call
 call_of Ask.Reset memory out = Reset

@@ -1,10 +1,12 @@
 // A call as a value, performed on a record: the six calls that take a record, in one.
+#![tactic(auto)]
+
 ghost use Rattle.std.specs.Prelude.{◌≡◌};
 ghost use Rattle.calls.specs.Asks.{Performs};
 
 use answer::Answer;
 
-#[derive(Drop)]
+#[derive(Clone, Copy)]
 pub enum Ask {
     Reset,
     Write(u32, u8),
@@ -16,7 +18,7 @@ pub enum Ask {
 
 // What a call answers, and the number that it gives beside: a read its byte, `Waiting` the mask of the waiting voices, a frame how many words were
 // missing; 0 of any other.
-#[derive(Drop)]
+#[derive(Clone, Copy)]
 pub struct Reply {
     pub answer: Answer,
     pub given: u32,

@@ -1,7 +1,7 @@
 -- Channel sums: the wrapped sum as a remainder, and that the order of addition does not matter, so that the order of the voices is
 -- inaudible. Assumes nothing.
 use mathlib.Core.Path.{◌≡◌, sym, ap, ◌∙◌}
-use Prim.Native.Nat.{ℕ, ◌+◌, ◌%◌, ◌<◌}
+use Prim.Native.Nat.{ℕ, ◌+◌, ◌%◌}
 use native.Mathlib.Nat.{mod-add-mod, add-mod-mod}
 use native.Mathlib.Omega.{arith}
 use lib.IntN.{+ℤ_comm}

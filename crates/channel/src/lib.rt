@@ -1,4 +1,6 @@
 // The sum of a channel, a word of 23 bits in two's complement.
+#![tactic(auto)]
+
 ghost use Rattle.std.specs.Prelude.{◌≡◌, ◌<◌};
 ghost use Rattle.channel.specs.Channel.{mixed, put_out};
 

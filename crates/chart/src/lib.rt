@@ -1,11 +1,13 @@
 // The code chart as text: for each sample of the input its code and the code's value.
 // Everything but reading and writing is here. Each `put_` function stores its bytes from `at` on and answers the place after them.
+#![tactic(auto)]
+
 ghost use Rattle.std.specs.Prelude.{◌≡◌, ◌++◌, ◌+◌, ◌*◌, ◌<◌, ◌≤◌, length};
 ghost use Rattle.numbers.specs.Numbers.{signed, Within};
 ghost use Rattle.chart.specs.Chart.{decimal, number, line, lines, chart_answer, chart_output, Stored};
 
 // What a chart into a lent output came to.
-#[derive(Drop)]
+#[derive(Clone, Copy)]
 pub enum Charted {
     // So many bytes of it are the chart.
     Written(usize),

@@ -1,4 +1,8 @@
 // The chart of the most bytes that it takes: every even sample, so that each code is met.
-fn main() {
-    chart_io::run();
+#![tactic(auto)]
+
+use std::io;
+
+fn main(rt: HostRuntime) -> io::Result<()> {
+    chart_io::run(&rt)
 }

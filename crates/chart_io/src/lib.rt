@@ -1,20 +1,41 @@
 // The code chart program, but for its `main`: reads standard input and writes its chart. One byte more than a chart takes is
 // read, so that a longer input is seen.
-ghost use Rattle.std.specs.Prelude.{◌≡◌, length};
+#![tactic(auto)]
+
+ghost use Rattle.std.specs.Prelude.{◌≡◌, length, IfSome, OnOk};
+ghost use Rattle.std.specs.Io.KnownBytes.{Appends};
+ghost use Rattle.chart.specs.Chart.{chart_of};
 
 use chart::Charted;
-use libc::{STDIN_FILENO, STDOUT_FILENO};
+use std::io;
+use std::io::{Input, Print, Read, Write};
 
-pub fn run() {
-    let mut input = [0u8; 65537];
-    let n = io::read_full(STDIN_FILENO, &mut input);
-    let mut out = space();
-    if let Charted::Written(k) = chart::chart(&input[..n], &mut out) {
-        io::write_all(STDOUT_FILENO, &out[..k]);
-    }
+// The chart of standard input, to standard output.
+pub fn run(rt: &(impl Input + Print)) -> io::Result<()> {
+    write_chart(&mut rt.reader(), &mut io::writer(rt))
 }
 
-// Nine zeros for each byte of input. A function of its own, so that the proof of `run` has the length and not the list.
+// The chart of all that the reader has, and nothing else, to the writer.
+pub fn write_chart<R: Read, W: Write>(reader: &mut R, writer: &mut W) -> io::Result<()>
+    ensures { OnOk result (IfSome (R.remaining reader.old) (λ input. Appends (W.contents writer.old) (W.contents writer.new) (chart_of input))) }
+{
+    let mut input = buffer();
+    let n = reading::read_full(reader, &mut input)?;
+    let mut out = space();
+    if let Charted::Written(k) = chart::chart(&input[..n], &mut out) {
+        writer.write_all(&out[..k])?;
+    }
+    Ok(())
+}
+
+// Room for one byte more than a chart takes. A function of its own, so that the proof of `write_chart` has the length and not the list.
+fn buffer() -> [u8; 65537]
+    ensures { 65537 ≡ length result }
+{
+    [0; 65537]
+}
+
+// Nine zeros for each byte of input, likewise.
 fn space() -> [u8; 589833]
     ensures { 589833 ≡ length result }
 {

@@ -1,4 +1,8 @@
 // The chart of the manual's examples: both ends of each row of its table, in the table's order.
-fn main() {
-    chart_io::run();
+#![tactic(auto)]
+
+use std::io;
+
+fn main(rt: HostRuntime) -> io::Result<()> {
+    chart_io::run(&rt)
 }

@@ -1,4 +1,8 @@
 // The chart of one byte alone.
-fn main() {
-    chart_io::run();
+#![tactic(auto)]
+
+use std::io;
+
+fn main(rt: HostRuntime) -> io::Result<()> {
+    chart_io::run(&rt)
 }

@@ -1,6 +1,8 @@
 // A RIFF/WAVE file as its chunks: where they end, and the chunk at a place.
 // Nothing is copied: a chunk is its name, and the place and the number of its bytes in the file. Whoever walks over the chunks has the place
 // of the next one as a number.
+#![tactic(auto)]
+
 ghost use Rattle.std.specs.Prelude.{◌≡◌, ◌≤◌, length};
 ghost use Rattle.chunks.specs.Chunks.{RIFF, WAVE, FORMAT, DATA, SAMPLER};
 ghost use Rattle.chunks.specs.Walk.{opened_of, reach_of};
@@ -13,7 +15,7 @@ pub const FIRST_CHUNK: usize = 12;
 // The bytes of a chunk's header, its name and its size.
 pub const HEADER_BYTES: usize = 8;
 
-#[derive(Drop)]
+#[derive(Clone, Copy)]
 pub struct Chunk {
     pub name: u32,
     pub place: usize,
@@ -21,7 +23,7 @@ pub struct Chunk {
 }
 
 // What the start of a file comes to.
-#[derive(Drop)]
+#[derive(Clone, Copy)]
 pub enum Opened {
     // It is too long, no RIFF/WAVE, or shorter than it says.
     Unheaded,
@@ -30,7 +32,7 @@ pub enum Opened {
 }
 
 // What stands at a place.
-#[derive(Drop)]
+#[derive(Clone, Copy)]
 pub enum Reach {
     // A chunk that runs past the end, or fewer bytes than a chunk begins with.
     Past,

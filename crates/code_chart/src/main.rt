@@ -1,4 +1,8 @@
 // The code chart program, run on the loudest sample, silence and the lowest sample.
-fn main() {
-    chart_io::run();
+#![tactic(auto)]
+
+use std::io;
+
+fn main(rt: HostRuntime) -> io::Result<()> {
+    chart_io::run(&rt)
 }

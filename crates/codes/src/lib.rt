@@ -1,6 +1,8 @@
 // Compressed samples: expand a code of 8 bits, compress a sample of 16.
 // `expand` reads a table of all 256 values, whose rule is proved over the whole table. `compress` has the exponent from the processor's count of
 // leading zeros, and as it is compiled it takes the same instructions for every sample, which `make -C host test` holds it to.
+#![tactic(auto)]
+
 ghost use Rattle.std.specs.Prelude.{◌≡◌, ◌-◌, ◌<◌, max};
 ghost use Rattle.std.specs.Int.Signed.{mag};
 ghost use Rattle.numbers.specs.Numbers.{floor_div, word};

@@ -31,7 +31,6 @@ use Rattle.frame.proofs.Answered.{done_frame, frames_refused}
 use Rattle.calls.specs.Calls.{Call, Reset, Write, Read, SetPot, Waiting, Frame, answer_to, after, output_from}
 use Rattle.calls.specs.Asks.{call_of, output_of}
 use Rattle.calls.specs.declared.Ask.{Ask}
-use Rattle.calls.specs.declared.Ask.TheVariants as Ask
 use Rattle.calls.proofs.Valid.{Byte, after-valid}
 use Rattle.engines.specs.Engines.{U32, I32, All, Askable, Lent, Outcome, Meets}
 

@@ -19,7 +19,6 @@ use Rattle.engines.specs.Engines.{U16, I32, Lent, Outcome, Engine, Meets, Keeps,
 use Rattle.engines.proofs.Heard.{one, memory, short, silence, framed, one_done, one_heard, one_missing, one_stepped, two_heard, flagged, flagged_valid, one_waits}
 use Rattle.engines.proofs.Lent.{all_joined, all_copies, valid_words, lent_again}
 use Rattle.calls.specs.declared.Ask.{Ask}
-use Rattle.calls.specs.declared.Ask.TheVariants as Ask
 
 pub keeps_defined : Keeps defined
 keeps_defined m memory out ask l = record { answers = refl; gives = refl; leaves = refl; sounds = refl }

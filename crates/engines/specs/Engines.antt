@@ -9,7 +9,6 @@ use Rattle.machine.specs.Words.{OUTPUT_VALUES}
 use Rattle.calls.specs.Calls.{answer_to, after, given_by}
 use Rattle.calls.specs.Asks.{call_of, output_of, Performs}
 use Rattle.calls.specs.declared.Ask.{Ask}
-use Rattle.calls.specs.declared.Ask.TheVariants as Ask
 
 -- ---- what can be lent
 

@@ -6,7 +6,7 @@ use native.Mathlib.Nat.{mul-le-mul_left, mul-le-mul_right, le_of_lt}
 use native.Mathlib.Omega.{arith}
 use mathlib.Core.Bool.{true, false}
 use lib.Dec.{lit<}
-use lib.IntN.{ℤ, pos, ◌+ℤ◌, ◌-ℤ◌, ◌*ℤ◌}
+use lib.IntN.{ℤ, pos, ◌+ℤ◌, ◌*ℤ◌}
 use Rattle.numbers.specs.Numbers.{floor_div, Bits}
 use Rattle.numbers.proofs.Difference.{◌⊖◌, ⊖_eq, ⊖-add, ⊖-sub, ⊖-mul}
 use Rattle.numbers.proofs.Words.{biased, bits-⊖, floor_up, held_mag}

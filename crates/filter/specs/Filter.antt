@@ -1,6 +1,6 @@
 -- The four poles that a voice's samples pass, on whole numbers: the two kinds of pole, which kind the control register makes of
 -- poles 3 and 4, and the four outputs. Assumes nothing.
-use Rattle.std.specs.Prelude.{ℕ, ◌+◌, ◌/◌, Bool, cond, ℤ, pos, ◌+ℤ◌, ◌-ℤ◌, ◌*ℤ◌}
+use Rattle.std.specs.Prelude.{ℕ, ◌+◌, ◌/◌, cond, ℤ, pos, ◌+ℤ◌, ◌-ℤ◌, ◌*ℤ◌}
 use Rattle.numbers.specs.Numbers.{floor_div, held, minus}
 use Rattle.control.specs.Control.{flag_of, LP3, LP4}
 use Rattle.filter.specs.declared.Poles.{Poles}

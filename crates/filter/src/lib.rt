@@ -1,11 +1,13 @@
 // The four poles that a voice's samples pass. Outputs are numbers of 18 bits, and each pole keeps them so.
+#![tactic(auto)]
+
 ghost use Rattle.std.specs.Prelude.{◌≡◌, ◌<◌, pos, ◌*ℤ◌};
 ghost use Rattle.numbers.specs.Numbers.{floor_div, Bits};
 ghost use Rattle.filter.specs.Filter.{low_pass, high_pass, coefficient, pole3, pole4, filtered};
 ghost use Rattle.filter.specs.PoleBits.{PoleBits};
 
 // The last outputs of poles 1 to 4.
-#[derive(Drop)]
+#[derive(Clone, Copy)]
 pub struct Poles {
     pub o1: i32,
     pub o2: i32,

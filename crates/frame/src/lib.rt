@@ -1,6 +1,8 @@
 // One frame over the record: the turns of voices 0 to ACTV, and the closing.
 // A voice's twenty words are lent to its turn as a part of the record; what it adds to its channel comes back by value, and is added here. The
 // number of missing words is lent to each turn, which adds its own.
+#![tactic(auto)]
+
 ghost use Rattle.std.specs.Prelude.{◌≡◌, true, cond, map, ℕ, ◌+◌, ◌*◌, ◌%◌, ◌^◌, ◌<◌, length, get_or, replicate};
 ghost use Rattle.numbers.specs.Numbers.{Within};
 ghost use Rattle.codes.specs.Codes.{Expands};
@@ -20,7 +22,7 @@ use answer::Answer;
 const LEAST_ACTV: u32 = 4;
 
 // What a frame answers, and how many words of sample memory its running voices asked for and missed.
-#[derive(Drop)]
+#[derive(Clone, Copy)]
 pub struct Framed {
     pub answer: Answer,
     pub missing: u32,

@@ -1,6 +1,8 @@
 // Numbers of two and of four bytes, the lowest first, and of two, the highest first: made of their bytes, and read at a place of a slice; the bytes of
 // a number, the lowest first; and four bytes put into a slice.
 // What the places of a file are is the format's own; here is only how its numbers are written.
+#![tactic(auto)]
+
 ghost use Rattle.std.specs.Prelude.{◌≡◌, [], ◌∷◌, ◌+◌, ◌≤◌, length};
 ghost use Rattle.layout.specs.Parts.{with_part};
 ghost use Rattle.layout.specs.Bytes.{little, big, little2_at, little4_at, big2_at, little_bytes};

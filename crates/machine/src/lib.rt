@@ -1,5 +1,7 @@
 // The machine record: its words by name, the bits that each keeps, the check that every call on a record but a reset begins with, the waiting
 // voices, and reset.
+#![tactic(auto)]
+
 ghost use Rattle.std.specs.Prelude.{◌≡◌, ◌&&◌, ◌+◌, ◌<◌, ◌≤◌, length, get_or};
 ghost use Rattle.control.specs.Control.{with_bit};
 ghost use Rattle.machine.specs.Words.{bits_of, voice_bits, shared_bits, RECORD_WORDS as Words-as-RECORD_WORDS, VOICES as Words-as-VOICES, O3N2 as Words-as-O3N2};
@@ -290,7 +292,7 @@ pub fn mark(m: &mut [u32], v: usize, b: u32)
 }
 
 // What a host that asks is told: the answer, and the mask.
-#[derive(Drop)]
+#[derive(Clone, Copy)]
 pub struct Told {
     pub answer: Answer,
     pub mask: u32,

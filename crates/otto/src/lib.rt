@@ -1,5 +1,7 @@
 // The engine for hosts in C, C++ and Rust: each call under its C name, with the promise of the call. A slice passes as a pointer and a
 // length. `include/otto.h` is the other side.
+#![tactic(auto)]
+
 ghost use Rattle.std.specs.Prelude.{◌≡◌};
 ghost use Rattle.codes.specs.Codes.{value_of, Compressed};
 ghost use Rattle.calls.specs.Calls.{Reset, Write, SetPot};

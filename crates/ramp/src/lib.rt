@@ -1,4 +1,6 @@
 // Ramps: a volume or a filter coefficient moved by its ramp register.
+#![tactic(auto)]
+
 ghost use Rattle.std.specs.Prelude.{◌≡◌, ◌<◌};
 ghost use Rattle.ramp.specs.Ramp.{ramped, slow_ramped};
 

@@ -1,6 +1,8 @@
 // The registers by byte: write a byte, read a byte, set the pot result.
 // Each public call checks what it is lent, refuses, or hands on to one worker; `decode` is the one map from page and register to word,
 // for writes and reads alike.
+#![tactic(auto)]
+
 ghost use Rattle.std.specs.Prelude.{◌≡◌, true, ◌<◌, get_or, set};
 ghost use Rattle.machine.specs.Words.{READ_LATCH, WAIT_MASK, cut, with_mask, valid};
 ghost use Rattle.registers.specs.Registers.{register_of, byte_of, with_byte, stored, written_to, read_as, side_effect, read_from};
@@ -14,7 +16,7 @@ use answer::Answer;
 const ADDRESS_LIMIT: u32 = 63;
 
 // What a page and a register number name.
-#[derive(Drop)]
+#[derive(Clone, Copy)]
 pub enum Register {
     // A word of the record that reads and writes.
     Word(usize),
@@ -27,7 +29,7 @@ pub enum Register {
 }
 
 // What a read gives.
-#[derive(Drop)]
+#[derive(Clone, Copy)]
 pub struct Got {
     pub answer: Answer,
     pub byte: u8,
@@ -108,6 +110,7 @@ fn write_byte(m: &mut [u32], r: u32, k: u32, b: u8)
 }
 
 // Byte k of register r is read.
+#[tactic(auto, using(machine::proofs::Valid::sound), unfolding(crate::specs::Registers::read_from))]
 fn read_byte(m: &mut [u32], r: u32, k: u32) -> u8
     requires m_value { valid m.old ≡ true }
     requires r_bound { (r < 16) × (k < 4) }
@@ -123,6 +126,7 @@ fn read_byte(m: &mut [u32], r: u32, k: u32) -> u8
 }
 
 // The register that a page and a number name.
+#[tactic(auto, using(crate::proofs::Inside::inside), unfolding(crate::specs::Registers::register_of, crate::specs::Registers::low_page, crate::specs::Registers::high_page, crate::specs::Registers::sum_page))]
 fn decode(page: u32, r: u32) -> Register
     requires { r < 16 }
     ensures { (result ≡ register_of page r) × Inside result }

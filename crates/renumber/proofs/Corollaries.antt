@@ -87,7 +87,7 @@ one_write {m} p s f =
 all_writes_lem : {m : List ℕ} (ps : List Put) → Sound m → AllFit ps → Between m idle (all_writes ps) ps idle
 unfolding all_writes
 all_writes_lem [] s f = nothing
-all_writes_lem (p ∷ ps) s f = let d = one_write p s f.0 in one_after_other d (all_writes_lem ps (between s d).sound f.1)
+all_writes_lem {m = m} (p ∷ ps) s f = let d = one_write p s f.0 in one_after_other d (all_writes_lem {m = run m (writes p)} ps (between s d).sound f.1)
 
 -- ---- a score is a trace
 
@@ -98,7 +98,7 @@ log_of (f ∷ fs) = Then f.puts f.memory (log_of fs)
 pub score_trace : {m : List ℕ} (fs : List Step) → Sound m → too_few m ≡ false → Playable fs → Trace m idle (calls_of fs) (log_of fs)
 unfolding calls_of log_of
 score_trace [] s v h = stop nothing
-score_trace (f ∷ fs) s v h = one_frame_more f.memory (replicate 12 (pos 0)) h.1 refl s v tt (all_writes_lem f.puts s h.0) (λ s₁ v₁ _. score_trace fs s₁ v₁ h.2)
+score_trace {m = m} (f ∷ fs) s v h = one_frame_more f.memory (replicate 12 (pos 0)) h.1 refl s v tt (all_writes_lem f.puts s h.0) (λ s₁ v₁ _. score_trace {m = after (run m (all_writes f.puts)) (Frame f.memory (replicate 12 (pos 0)))} fs s₁ v₁ h.2)
 
 -- ---- scores that are alike
 

@@ -4,6 +4,8 @@
 // than it goes back by, stands for itself; so does every command of another kind, of which nothing is known here.
 //
 // In order: a repeat; how many bytes there are in full; the commands in full.
+#![tactic(auto)]
+
 ghost use Rattle.std.specs.Prelude.{◌≡◌, cond, ◌+◌, ◌≤◌, length, take};
 ghost use Rattle.layout.specs.Parts.{part, with_part};
 ghost use Rattle.repeats.specs.Repeats.{COMMAND_BYTES, back_at, asked_at, repeats_at, stands_for, in_full};

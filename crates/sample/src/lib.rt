@@ -1,5 +1,7 @@
 // The sample of a voice: the two words that it fetches from sample memory, each with whether it was there; how many were missing; what a word
 // stands for, and the value between two.
+#![tactic(auto)]
+
 ghost use Rattle.std.specs.Prelude.{◌≡◌, cond, ◌+◌, ◌*◌, ◌^◌, ◌<◌, length};
 ghost use Rattle.numbers.specs.Numbers.{Bits};
 ghost use Rattle.codes.specs.Codes.{Expands};
@@ -15,14 +17,14 @@ pub const MOST_MEMORY_WORDS: usize = 4 * 2097152;
 pub const WHOLE_SAMPLE: u32 = 2048;
 
 // A word that was asked for, 0 where it was not there, and whether it was.
-#[derive(Drop)]
+#[derive(Clone, Copy)]
 pub struct MemoryWord {
     pub bits: u16,
     pub there: bool,
 }
 
 // The two words of a fetch.
-#[derive(Drop)]
+#[derive(Clone, Copy)]
 pub struct Words {
     pub first: MemoryWord,
     pub second: MemoryWord,

@@ -13,7 +13,6 @@ use lib.Seq.{take_all}
 use Rattle.repeats.specs.Repeats.{COMMAND_BYTES, REPEAT}
 use Rattle.scores.specs.Score.{MOST_BYTES, MEMORY_BYTES, MOST_FULL_BYTES, MOST_FRAMES, KINDS, commands_of, score_frames, all_below, commands_verdict, verdict_of}
 use Rattle.scores.specs.declared.Verdict.{Verdict}
-use Rattle.scores.specs.declared.Verdict.TheVariants as Verdict
 
 pub part_is : (score : List ℕ) → take (length score - MEMORY_BYTES) (drop MEMORY_BYTES score) ≡ drop MEMORY_BYTES score
 part_is score = take_all (length score - MEMORY_BYTES) (drop MEMORY_BYTES score) (rw length-drop (omega arith))

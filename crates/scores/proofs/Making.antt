@@ -21,7 +21,6 @@ use Rattle.frame.proofs.Leaves.{heard-length}
 use Rattle.calls.specs.Calls.{Call, Frame, answer_to, output_from}
 use Rattle.calls.specs.Asks.{call_of, output_of, Performs}
 use Rattle.calls.specs.declared.Ask.{Ask}
-use Rattle.calls.specs.declared.Ask.TheVariants as Ask
 use Rattle.scores.specs.Score.{silence, is_frame_ask}
 use Rattle.scores.specs.Sound.{sample_bytes}
 use Rattle.scores.specs.Playing.{is_frame, heard_at, Makes}

@@ -1,7 +1,7 @@
 -- A score: the words of sample memory at its start, and its commands, in full; which call a command asks for, and how often; the calls of all
 -- commands; how many frames these are; whether a score is good. In that order. How commands stand in bytes, and what one that repeats others stands
 -- for, is `repeats`. Assumes nothing.
-use Rattle.std.specs.Prelude.{ℕ, zero, suc, ◌+◌, ◌*◌, ◌%◌, ◌-◌, ◌<◌, ◌≡◌, Bool, true, false, cond, not, ◌&&◌, List, [], ◌++◌, eqb, ltb, ℤ, pos, length, get_or, drop, replicate}
+use Rattle.std.specs.Prelude.{ℕ, zero, suc, ◌*◌, ◌%◌, ◌-◌, ◌<◌, ◌≡◌, Bool, true, false, cond, not, ◌&&◌, List, [], ◌++◌, eqb, ltb, ℤ, pos, length, get_or, drop, replicate}
 use Rattle.numbers.specs.Sum.{sum}
 use Rattle.layout.specs.Bytes.{big2_at}
 use Rattle.repeats.specs.Repeats.{COMMAND_BYTES, command_count, kind_at, number_at, byte_at, REPEAT, in_full}

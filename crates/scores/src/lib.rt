@@ -7,6 +7,8 @@
 //
 // In order: a command; the memory; how many frames there are; whether a score is good; what is heard of a frame; a score played. But for `fill` and
 // `judge`, which take a score, all is of commands in full, which `repeats::put_in_full` gives.
+#![tactic(auto)]
+
 ghost use Rattle.std.specs.Prelude.{◌≡◌, ◌+◌, ◌*◌, ◌/◌, ◌≤◌, ◌<◌, ◌^◌, length, ◌+ℤ◌, nat_abs, cond};
 ghost use Rattle.numbers.specs.Numbers.{word, signed};
 ghost use Rattle.answer.specs.Answer.{is_done};
@@ -47,7 +49,7 @@ pub const MOST_FRAMES: u64 = 1073741814;
 
 // ---- a command: a call, and how many times it is made
 
-#[derive(Drop)]
+#[derive(Clone, Copy)]
 pub struct Command {
     pub ask: Ask,
     pub times: u32,
@@ -134,7 +136,7 @@ fn command_frames(c: Command) -> u64
 
 // ---- whether a score is good
 
-#[derive(Drop)]
+#[derive(Clone, Copy)]
 pub enum Verdict {
     Good,
     // It has more bytes than a score may have.
@@ -251,7 +253,7 @@ fn magnitude(w: u16) -> u32
 // ---- a score played
 
 // What one call comes to: 1 where it was a frame, and 1 where it was refused.
-#[derive(Drop)]
+#[derive(Clone, Copy)]
 struct Made {
     pub frames: usize,
     pub refused: usize,
@@ -289,7 +291,7 @@ fn refusal(a: Answer) -> usize
 }
 
 // Where a score stands after some calls: its command, and how many of that one's calls are made; and what those calls came to.
-#[derive(Drop)]
+#[derive(Clone, Copy)]
 pub struct Played {
     pub command: usize,
     pub made: u32,

@@ -1,6 +1,8 @@
 // One turn of a voice on its own twenty words, which are lent as a part of the record: sample, filters, volume, address and ramps, as the
 // control register says. The turn does not know the voice's number, so which voice plays cannot be heard in it.
 // The words are read and stored where they stand: no copy of the voice is made.
+#![tactic(auto)]
+
 ghost use Rattle.std.specs.Prelude.{◌≡◌, cond, ◌+◌, ◌^◌, ◌<◌, pos, length, get_or};
 ghost use Rattle.numbers.specs.Numbers.{Bits};
 ghost use Rattle.codes.specs.Codes.{Expands};
@@ -17,7 +19,7 @@ ghost use Rattle.voice.specs.Takes.{after_step, after_ramps, Passes, TakesTurn};
 use filter::Poles;
 
 // What a turn adds to the left and right sums of a channel; channel 7 is none.
-#[derive(Drop)]
+#[derive(Clone, Copy)]
 pub struct Addend {
     pub channel: u32,
     pub left: i32,

@@ -1,4 +1,6 @@
 // The volume of a voice, on one side.
+#![tactic(auto)]
+
 ghost use Rattle.std.specs.Prelude.{◌≡◌, ◌<◌};
 ghost use Rattle.numbers.specs.Numbers.{Bits, Within};
 ghost use Rattle.volume.specs.Volume.{panned};

@@ -3,6 +3,8 @@
 // places in it.
 //
 // Time: a round of the pass goes on by eight bytes or more, or is the last, so a file of 65,536 bytes has at most 8,191. There is no other loop.
+#![tactic(auto)]
+
 ghost use Rattle.std.specs.Prelude.{◌≡◌, false, [], ◌≤◌, length};
 ghost use Rattle.chunks.specs.Chunks.{chunks_from, FIRST_CHUNK as Chunks-as-FIRST_CHUNK};
 ghost use Rattle.wave.specs.Wave.{is_short, is_mono16, is_sampler_short, loop_in, FORMAT_BYTES as Wave-as-FORMAT_BYTES};
@@ -21,7 +23,7 @@ const LOOP_BYTES: usize = 24;
 const LOOP_COUNT: usize = 28;
 
 // The first loop of a file.
-#[derive(Drop)]
+#[derive(Clone, Copy)]
 pub enum Loop {
     Absent,
     // Its type (`type` is a word of the language), its first sample and its last.
@@ -29,14 +31,14 @@ pub enum Loop {
 }
 
 // What is kept of the chunks of a name: how many they are, where 2 stands for more as well, and the first.
-#[derive(Drop)]
+#[derive(Clone, Copy)]
 pub struct Kept {
     pub times: usize,
     pub first: Chunk,
 }
 
 // What one pass keeps. (The data chunk is `pcm`.)
-#[derive(Drop)]
+#[derive(Clone, Copy)]
 pub struct Found {
     pub format: Kept,
     pub pcm: Kept,
@@ -44,7 +46,7 @@ pub struct Found {
 }
 
 // What a file comes to.
-#[derive(Drop)]
+#[derive(Clone, Copy)]
 pub enum Parsed {
     Broken,
     Unbroken(Found),

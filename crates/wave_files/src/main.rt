@@ -2,9 +2,12 @@
 // Every import is lent a sample memory of 512 words that all hold the same number, and puts its samples from word 16 on. It gives a line: the file's
 // name, all that is answered, and how many words outside the samples' part are not as they were; and, where there are samples, a second line with
 // their words.
+#![tactic(auto)]
+
 ghost use Rattle.std.specs.Prelude.{◌+◌, ◌≤◌, length};
 
-use libc::STDOUT_FILENO;
+use std::rt::Files;
+use std::{env, fs, io};
 use wave_in::Imported;
 
 // The named word, and what every word of the memory holds before.
@@ -12,50 +15,44 @@ const WORD: usize = 16;
 
 const FILLER: u16 = 42405;
 
-fn main() {
-    let files = os::arg_count();
-    for i in 1..files {
-        take(i);
+fn main(rt: HostRuntime) -> io::Result<()> {
+    for name in env::args(&rt)?.skip(1) {
+        take(&rt, name.as_str())?;
     }
+    Ok(())
 }
 
-// The file that an argument names. One byte more than an import takes is read, so that a longer file is seen.
-fn take(i: usize) {
-    let mut name = io::buffer();
-    let n = os::arg(i, &mut name);
-    let fd = os::open_read(&name[..n]);
-    if fd < 0 {
-        os::fail(&name[..n]);
-        return;
-    }
+// The file of a name. One byte more than an import takes is read, so that a longer file is seen. A file that cannot be opened gives a line on
+// standard error in place of its own.
+fn take(rt: &(impl Files + Print + Eprint), name: &str) -> io::Result<()> {
+    let mut source = match fs::open(rt, name) {
+        Ok(source) => source,
+        Err(e) => return eprintln!(rt; "{name}: {e}"),
+    };
     let mut file = [0u8; 65537];
-    let bytes = io::read_full(fd, &mut file);
-    libc::close(fd);
+    let bytes = reading::read_full(&mut source, &mut file)?;
     let mut memory = [FILLER; 512];
     let got = wave_in::import(&file[..bytes], &mut memory, WORD);
-    io::write_all(STDOUT_FILENO, &name[..n]);
-    say(got, &memory);
+    print!(rt; "{name}")?;
+    say(rt, got, &memory)
 }
 
-fn say(got: Imported, memory: &[u16]) {
-    let answer = got.answer;
-    say_number(b": answer ", answer::number(answer) as u64);
-    say_number(b", START ", got.start as u64);
-    say_number(b", END ", got.end as u64);
-    say_number(b", loop ", got.bits as u64);
-    say_number(b", samples ", got.samples as u64);
-    let end = WORD + got.samples as usize;
-    say_number(b", changed elsewhere ", changed(memory, end) as u64);
-    io::write_all(STDOUT_FILENO, b"\n");
+fn say(rt: &impl Print, got: Imported, memory: &[u16]) -> io::Result<()> {
+    let answer = answer::number(got.answer);
+    let start = got.start;
+    let last = got.end;
+    let bits = got.bits;
+    let samples = got.samples;
+    let end = WORD + samples as usize;
+    let elsewhere = changed(memory, end);
+    println!(rt;
+        ": answer {answer}, START {start}, END {last}, loop {bits}, samples {samples}, changed elsewhere {elsewhere}"
+    )?;
     if WORD < end {
-        say_samples(memory, end);
-        io::write_all(STDOUT_FILENO, b"\n");
+        say_samples(rt, memory, end)?;
+        println!(rt; "")?;
     }
-}
-
-fn say_number(text: &[u8], n: u64) {
-    io::write_all(STDOUT_FILENO, text);
-    io::print_decimal(STDOUT_FILENO, n);
+    Ok(())
 }
 
 // How many words before the named one, and from the end of the samples on, are not as they were.
@@ -81,19 +78,21 @@ fn differs(word: u16, k: usize, end: usize) -> usize
 }
 
 // The words from the named one to the end of the samples, with a space between.
-fn say_samples(memory: &[u16], end: usize) {
+fn say_samples(rt: &impl Print, memory: &[u16], end: usize) -> io::Result<()> {
     for k in 0..memory.len() {
-        say_sample(memory[k], k, end);
+        say_sample(rt, memory[k], k, end)?;
     }
+    Ok(())
 }
 
-fn say_sample(word: u16, k: usize, end: usize) {
+fn say_sample(rt: &impl Print, word: u16, k: usize, end: usize) -> io::Result<()> {
     if WORD <= k {
         if k < end {
             if WORD < k {
-                io::write_all(STDOUT_FILENO, b" ");
+                print!(rt; " ")?;
             }
-            io::print_decimal(STDOUT_FILENO, word as u64);
+            print!(rt; "{word}")?;
         }
     }
+    Ok(())
 }

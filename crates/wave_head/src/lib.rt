@@ -1,4 +1,6 @@
 // What a WAVE file begins with, in three pieces, which follow each other: its own head, the format chunk, and the head of the data chunk.
+#![tactic(auto)]
+
 ghost use Rattle.std.specs.Prelude.{◌≡◌, ◌*◌, ◌≤◌, ◌<◌};
 ghost use Rattle.wave_head.specs.Head.{riff_head, format_chunk, data_head};
 

@@ -3,6 +3,8 @@
 // memory that the samples go into is lent to the function that copies them, which sees no other word.
 //
 // Time: a round of the copy takes two bytes, so there are at most 32,746, beside the rounds over the file's chunks. There is no other loop.
+#![tactic(auto)]
+
 ghost use Rattle.std.specs.Prelude.{◌≡◌, ◌*◌, ◌^◌, ◌≤◌, ◌<◌, length};
 ghost use Rattle.layout.specs.Parts.{with_part};
 ghost use Rattle.layout.specs.Bytes.{little, twos};
@@ -20,7 +22,7 @@ use wave::{Loop, Parsed};
 const GREATEST_REGISTER: usize = 4294967295;
 
 // What an import answers. In a refusal all but the answer is 0; without a loop START, END and the bits are.
-#[derive(Drop)]
+#[derive(Clone, Copy)]
 pub struct Imported {
     pub answer: Answer,
     // START and END, within the bank.
@@ -33,7 +35,7 @@ pub struct Imported {
 }
 
 // What an import comes to: why it is refused, or the samples' chunk and the loop.
-#[derive(Drop)]
+#[derive(Clone, Copy)]
 pub enum Settled {
     Refused(Answer),
     Taken { pcm: Chunk, looped: Loop },

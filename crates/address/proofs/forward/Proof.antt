@@ -1,14 +1,12 @@
 -- `address::forward` meets its contract: targets and distances fit 64 bits, so the machine's numbers are the rule's. Assumes nothing.
-use mathlib.Core.Path.{◌≡◌, refl, sym, ap, ◌∙◌}
-use Prim.Native.Nat.{ℕ}
+use mathlib.Core.Path.{refl, sym, ap, ◌∙◌}
 use native.Mathlib.Omega.{arith}
 use borrow.Author.Rules.{rules}
-use lib.IntN.{ℤ, pos, ◌+ℤ◌, ◌-ℤ◌}
+use lib.IntN.{pos, ◌+ℤ◌, ◌-ℤ◌}
 use mir.Syntax.{w64}
 use mir.Val.{to_z, of_z}
 use Rattle.numbers.specs.Numbers.{word}
 use Rattle.numbers.proofs.Local.{Done, nat, add, sub, test_le, within}
-use Rattle.address.specs.Event.{event}
 use Rattle.address.proofs.Laws.{forward_free, forward_within, forward_event_lem, same_place}
 use Rattle.address.proofs.forward.Statement.{statement}
 use Rattle.address.proofs.forward.Tie as tie
@@ -20,16 +18,16 @@ module _ (s : tie.Start) where
   past : Done w64 12884901885 (pos s.args.accum +ℤ pos s.args.fc -ℤ pos s.args.end) (to_z w64 (of_z w64 (to_z w64 s.args.accum +ℤ to_z w64 s.args.fc)) -ℤ to_z w64 s.args.end)
   past = sub target.num (nat w64 4294967295 s.args.end tt (omega arith)) tt
 
-returns : tie.Need-returns
+returns : tie.Need-returns-then-flag
 returns c =
     let s = c.before.before.before in
-    (same_place (c.wrap.ensures ∙ ap (word 32) (target s).num.is) refl ∙ sym (forward_free _ _ _ _ _ (sym c.before.before.flag.ensures ∙ c.before.if1.true)), s.requires)
+    (same_place (c.wrap.ensures ∙ ap (word 32) (target s).num.is) refl ∙ sym (forward_free _ _ _ _ _ (sym c.before.before.flag.ensures ∙ c.before.if-flag.true)), s.requires)
 
-returns_2 : tie.Need-returns-2
+returns_2 : tie.Need-returns-then-t-end
 returns_2 c =
     let s = c.before.before.before.before in (
-      same_place (c.wrap2.ensures ∙ ap (word 32) (target s).num.is) refl
-          ∙ sym (forward_within _ _ _ _ _ (test_le (target s).num (nat w64 4294967295 s.args.end tt (omega arith)) c.before.if2.true)),
+      same_place (c.wrap-then-t-end.ensures ∙ ap (word 32) (target s).num.is) refl
+          ∙ sym (forward_within _ _ _ _ _ (test_le (target s).num (nat w64 4294967295 s.args.end tt (omega arith)) c.before.if-t-end.true)),
       s.requires,
     )
 
@@ -43,13 +41,13 @@ event_requires c κs =
       ),
     )
 
-returns_3 : tie.Need-returns-3
+returns_3 : tie.Need-returns
 returns_3 c =
     let s = c.before.before.before.before in
     let o = add (nat w64 4294967295 s.args.start tt (omega arith)) (past s).num tt in
     let b = sub (nat w64 4294967295 s.args.end tt (omega arith)) (past s).num tt in (
       c.event.ensures.0 ∙ rw (o.num.is, b.num.is)
-          (sym (forward_event_lem _ _ _ _ _ (sym c.before.before.before.flag.ensures ∙ c.before.before.if1.false) (test_le (target s).num (nat w64 4294967295 s.args.end tt (omega arith)) c.before.if2.false))),
+          (sym (forward_event_lem _ _ _ _ _ (sym c.before.before.before.flag.ensures ∙ c.before.before.if-flag.false) (test_le (target s).num (nat w64 4294967295 s.args.end tt (omega arith)) c.before.if-t-end.false))),
       c.event.ensures.1,
     )
 

@@ -1,9 +1,8 @@
 -- `address::reverse` meets its contract, as `forward` does with the loop points exchanged. Assumes nothing.
-use mathlib.Core.Path.{◌≡◌, refl, sym, ap, ◌∙◌}
-use Prim.Native.Nat.{ℕ}
+use mathlib.Core.Path.{refl, sym, ap, ◌∙◌}
 use native.Mathlib.Omega.{arith}
 use borrow.Author.Rules.{rules}
-use lib.IntN.{ℤ, pos, ◌-ℤ◌}
+use lib.IntN.{pos, ◌-ℤ◌}
 use mir.Syntax.{w64}
 use mir.Val.{to_z, of_z}
 use Rattle.numbers.specs.Numbers.{word}
@@ -19,10 +18,10 @@ module _ (s : tie.Start) where
   past : Done w64 12884901885 (pos s.args.start -ℤ (pos s.args.accum -ℤ pos s.args.fc)) (to_z w64 s.args.start -ℤ to_z w64 (of_z w64 (to_z w64 s.args.accum -ℤ to_z w64 s.args.fc)))
   past = sub (nat w64 4294967295 s.args.start tt (omega arith)) target.num tt
 
-returns : tie.Need-returns
+returns : tie.Need-returns-then-flag
 returns c =
     let s = c.before.before.before in
-    (same_place (c.wrap.ensures ∙ ap (word 32) (target s).num.is) refl ∙ sym (reverse_free _ _ _ _ _ (sym c.before.before.flag.ensures ∙ c.before.if1.true)), s.requires)
+    (same_place (c.wrap.ensures ∙ ap (word 32) (target s).num.is) refl ∙ sym (reverse_free _ _ _ _ _ (sym c.before.before.flag.ensures ∙ c.before.if-flag.true)), s.requires)
 
 event_requires : tie.Need-event-requires
 event_requires c κs =
@@ -34,21 +33,21 @@ event_requires c κs =
       ),
     )
 
-returns_2 : tie.Need-returns-2
+returns_2 : tie.Need-returns-then-t-start
 returns_2 c =
     let s = c.before.before.before.before in
     let o = sub (nat w64 4294967295 s.args.end tt (omega arith)) (past s).num tt in
     let b = add (nat w64 4294967295 s.args.start tt (omega arith)) (past s).num tt in (
       c.event.ensures.0 ∙ rw (o.num.is, b.num.is)
-          (sym (reverse_event_lem _ _ _ _ _ (sym c.before.before.before.flag.ensures ∙ c.before.before.if1.false) (test (target s).num (nat w64 4294967295 s.args.start tt (omega arith)) c.before.if2.true))),
+          (sym (reverse_event_lem _ _ _ _ _ (sym c.before.before.before.flag.ensures ∙ c.before.before.if-flag.false) (test (target s).num (nat w64 4294967295 s.args.start tt (omega arith)) c.before.if-t-start.true))),
       c.event.ensures.1,
     )
 
-returns_3 : tie.Need-returns-3
+returns_3 : tie.Need-returns
 returns_3 c =
     let s = c.before.before.before.before in (
-      same_place (c.wrap2.ensures ∙ ap (word 32) (target s).num.is) refl
-          ∙ sym (reverse_within _ _ _ _ _ (test (target s).num (nat w64 4294967295 s.args.start tt (omega arith)) c.before.if2.false)),
+      same_place (c.wrap-2.ensures ∙ ap (word 32) (target s).num.is) refl
+          ∙ sym (reverse_within _ _ _ _ _ (test (target s).num (nat w64 4294967295 s.args.start tt (omega arith)) c.before.if-t-start.false)),
       s.requires,
     )
 

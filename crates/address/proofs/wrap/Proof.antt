@@ -1,9 +1,8 @@
 -- `address::wrap` meets its contract: 2^34 is a multiple of 2^32, so moving an address up by it changes no word. Assumes nothing.
 use mathlib.Core.Path.{ap, ◌∙◌}
-use Prim.Native.Nat.{ℕ, ◌%◌}
+use Prim.Native.Nat.{◌%◌}
 use borrow.Author.Rules.{rules}
 use lib.IntN.{ℤ, pos, nat_abs}
-use mir.Syntax.{w64}
 use Rattle.numbers.proofs.Local.{arg, lit, add, as_nat}
 use Rattle.numbers.proofs.Words.{up_nonneg, word_up}
 use Rattle.address.proofs.wrap.Statement.{statement}

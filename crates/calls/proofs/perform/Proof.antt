@@ -20,23 +20,23 @@ of_reply : {m memory later : List ℕ} {out sound : List ℤ} {ask : Ask} {a r :
     → Performs m memory out ask r x later sound
 of_reply e p = rw (e.0, e.1) p
 
-returns : tie.Need-returns
-returns c = of_ask c.before.before.before.before.before.enum_told.given.1 (of_reply c.no_number.ensures (resets _ _ _ c.before.before.before.reset.ensures))
+returns : tie.Need-returns-in-Reset
+returns c = of_ask c.before.before.before.before.before.in-Reset.is (of_reply c.no_number.ensures (resets _ _ _ c.before.before.before.reset.ensures))
 
-returns_2 : tie.Need-returns-2
-returns_2 c = of_ask c.before.before.before.before.before.before.ask.given.1 (of_reply c.no_number2.ensures (writes _ _ _ _ _ c.before.before.before.write.ensures))
+returns_2 : tie.Need-returns-in-Write
+returns_2 c = of_ask c.before.before.before.before.before.in-Write.is (of_reply c.no_number-in-Write.ensures (writes _ _ _ _ _ c.before.before.before.write.ensures))
 
-returns_3 : tie.Need-returns-3
-returns_3 c = of_ask c.before.before.before.before.before.before.ask2.given.1 (reads _ _ _ _ c.before.before.before.read.ensures)
+returns_3 : tie.Need-returns-in-Read
+returns_3 c = of_ask c.before.before.before.before.before.in-Read.is (reads _ _ _ _ c.before.before.before.read-got.ensures)
 
-returns_4 : tie.Need-returns-4
-returns_4 c = of_ask c.before.before.before.before.before.before.ask3.given.1 (of_reply c.no_number3.ensures (sets_pot _ _ _ _ c.before.before.before.set_pot.ensures))
+returns_4 : tie.Need-returns-in-SetPot
+returns_4 c = of_ask c.before.before.before.before.before.in-SetPot.is (of_reply c.no_number-in-SetPot.ensures (sets_pot _ _ _ _ c.before.before.before.set_pot.ensures))
 
-returns_5 : tie.Need-returns-5
-returns_5 c = of_ask c.before.before.enum-told2.given.1 (tells_waiting _ _ _ refl c.waiting.ensures)
+returns_5 : tie.Need-returns-in-Waiting
+returns_5 c = of_ask c.before.in-Waiting.is (tells_waiting _ _ _ refl c.waiting-told.ensures)
 
-returns_6 : tie.Need-returns-6
-returns_6 c = of_ask c.before.before.before.before.before.before.enum-told3.given.1 (frames _ _ _ c.before.before.before.frame.ensures)
+returns_6 : tie.Need-returns-in-Frame
+returns_6 c = of_ask c.before.before.before.before.before.before.in-Frame.is (frames _ _ _ c.before.before.before.frame-framed.ensures)
 
 pub perform_spec : {M : Type 1} → statement M
 perform_spec =

@@ -9,21 +9,21 @@ use Rattle.chart.proofs.Stores.{reads_as, kept, more}
 use Rattle.chart.proofs.put.Statement.{statement}
 use Rattle.chart.proofs.put.Tie as tie
 
-abbrev invariant-loop : tie.invariant-loop
+abbrev invariant-loop : tie.invariant-loop-i
 invariant-loop out₀ at text i₀ i-end out i = (i-end ≡ length text) × (i ≤ length text) × Stored out₀ at (take i text) out (at + i)
 
-abbrev decreases-loop : tie.decreases-loop
+abbrev decreases-loop : tie.decreases-loop-i
 decreases-loop out₀ at text i₀ i-end out i = i-end - i
 
-loop_again : tie.Need-loop-preserved invariant-loop decreases-loop
+loop_again : tie.Need-loop-i-preserved invariant-loop decreases-loop
 loop_again c =
-    let l = c.before.before.loop in
+    let l = c.before.before.loop-i in
     let a = c.before.before.before.args in
     (l.invariant.0, omega arith, more a.text.now (omega arith) l.invariant.2)
 
 returns : tie.Need-returns invariant-loop decreases-loop
 returns c =
-    let l = c.before.loop in
+    let l = c.before.loop-i in
     let text = c.before.before.args.text.now in
     let all : l.i ≡ length text = omega arith in
     let s = reads_as (ap (λ (k : ℕ). take k text) all ∙ take-length text) l.invariant.2 in
@@ -36,10 +36,10 @@ put_spec =
     (λ c. (refl, omega arith, record { after = refl; stored = refl }))
     (λ c. omega arith)
     (λ c. omega arith)
-    (λ c. omega (arith, kept c.before.before.loop.invariant.2))
+    (λ c. omega (arith, kept c.before.before.loop-i.invariant.2))
     (λ c. omega arith)
     (λ c. omega arith)
     loop_again
     (λ c. omega arith)
-    (λ c. kept c.before.loop.invariant.2)
+    (λ c. kept c.before.loop-i.invariant.2)
     returns)

@@ -5,21 +5,12 @@ use Rattle.chunks.proofs.Reached.{header_past, bytes_past, all_whole}
 use Rattle.chunks.proofs.chunk_at.Statement.{statement}
 use Rattle.chunks.proofs.chunk_at.Tie as tie
 
-returns : tie.Need-returns
-returns c = header_past _ _ _ (omega arith)
-
-returns_2 : tie.Need-returns-2
-returns_2 c = bytes_past _ _ _ _ _ c.before.before.little4_at.ensures c.before.little4_at2.ensures c.if2.true
-
-returns_3 : tie.Need-returns-3
-returns_3 c = all_whole _ _ _ _ _ c.before.before.little4_at.ensures c.before.little4_at2.ensures c.if2.false
-
 pub chunk_at_spec : {M : Type 1} → statement M
 chunk_at_spec =
     tie.close
     (tie.spec
     (λ c. search rules)
-    returns
+    (λ c. header_past _ _ _ (omega arith))
     (λ c κs. search rules)
     (λ c. search rules)
     (λ c κs. search rules)
@@ -27,5 +18,5 @@ chunk_at_spec =
     (λ c. search rules)
     (λ c. search rules)
     (λ c. search rules)
-    returns_2
-    returns_3)
+    (λ c. bytes_past _ _ _ _ _ c.little4_at-name.ensures c.little4_at-size.ensures (omega arith))
+    (λ c. all_whole _ _ _ _ _ c.little4_at-name.ensures c.little4_at-size.ensures (omega arith)))

@@ -1,5 +1,5 @@
 -- `filter::fourth` meets its contract: the flag's answer picks the kind. Assumes nothing.
-use mathlib.Core.Path.{◌≡◌, sym, ◌∙◌}
+use mathlib.Core.Path.{sym, ◌∙◌}
 use borrow.Author.Rules.{rules}
 use mir.Syntax.{w32}
 use Rattle.numbers.specs.Numbers.{Bits}
@@ -8,17 +8,17 @@ use Rattle.filter.proofs.Laws.{pole4_low, pole4_high}
 use Rattle.filter.proofs.fourth.Statement.{statement}
 use Rattle.filter.proofs.fourth.Tie as tie
 
-returns : tie.Need-returns
+returns : tie.Need-returns-then-flag
 returns c =
     let p = c.before.before.before.requires in
     handed w32 (Bits 18) c.low_pass.type_inv c.low_pass.ensures
-    (rw ((held w32 tt p.1.0).is, (held w32 tt p.1.1.1).is) (sym (pole4_low _ 0 _ _ _ _ (sym c.before.before.flag.ensures ∙ c.before.if1.true))))
+    (rw ((held w32 tt p.1.0).is, (held w32 tt p.1.1.1).is) (sym (pole4_low _ 0 _ _ _ _ (sym c.before.before.flag.ensures ∙ c.before.if-flag.true))))
 
-returns_2 : tie.Need-returns-2
+returns_2 : tie.Need-returns-else-flag
 returns_2 c =
     let p = c.before.before.before.requires in
     handed w32 (Bits 18) c.high_pass.type_inv c.high_pass.ensures
-    (rw ((held w32 tt p.1.0).is, (held w32 tt p.1.1.0).is, (held w32 tt p.1.1.1).is) (sym (pole4_high _ 0 _ _ _ _ (sym c.before.before.flag.ensures ∙ c.before.if1.false))))
+    (rw ((held w32 tt p.1.0).is, (held w32 tt p.1.1.0).is, (held w32 tt p.1.1.1).is) (sym (pole4_high _ 0 _ _ _ _ (sym c.before.before.flag.ensures ∙ c.before.if-flag.false))))
 
 pub fourth_spec : {M : Type 1} → statement M
 fourth_spec = tie.close (tie.spec (λ c κs. search rules) (λ c κs. search rules) (λ c κs. search rules) returns returns_2)

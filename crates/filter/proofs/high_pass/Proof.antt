@@ -27,7 +27,7 @@ scaled_last c =
     ∙ ap (λ (y : ℤ). floor_div (pos (4096 + s.args.k) *ℤ y) 8192) (held w32 tt s.requires.1.1.1).is in
     ret w32 c.scaled.type_inv e (subst (Within 131072) e (of_bits c.scaled.ensures.1))
 
-add_hold : tie.Need-overflow_add-hold
+add_hold : tie.Need-overflow_add-x
 add_hold c = (add (difference c.before).num (scaled_last c) tt).asks
 
 returns : tie.Need-returns

@@ -1,13 +1,8 @@
 -- `frame::add_to` meets its contract: the old sum and the value's word are mixed. Assumes nothing.
-use mathlib.Core.Path.{◌≡◌, ap, ◌∙◌}
-use Prim.Native.Nat.{ℕ}
 use borrow.Author.Rules.{rules}
 use lib.Dec.{lit≤}
-use lib.ListN.{get_or, set}
 use mir.Facts.{to_z-of_z}
-use Rattle.numbers.specs.Numbers.{word}
 use Rattle.numbers.proofs.Local.{arg, within}
-use Rattle.channel.specs.Channel.{mixed}
 use Rattle.frame.specs.Frame.{added_to}
 use Rattle.frame.proofs.add_to.Statement.{statement}
 use Rattle.frame.proofs.add_to.Tie as tie
@@ -19,7 +14,7 @@ returns : tie.Need-returns
 unfolding added_to
 returns c =
     let s = c.before.before.before.before in
-    rw (c.mix.ensures.0, c.before.word_of.ensures.0, to_z-of_z s.ranges.z)
+    rw (c.mix-new.ensures.0, c.before.word_of.ensures.0, to_z-of_z s.ranges.z)
 
 pub add_to_spec : {M : Type 1} → statement M
 add_to_spec = tie.close (tie.spec (λ c. search rules) (λ c. search rules) word_of_requires (λ c κs. search rules) (λ c. search rules) (λ c. search rules) (λ c. search rules) returns)

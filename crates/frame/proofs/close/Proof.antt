@@ -21,12 +21,12 @@ small m h f i k = let l : i < 12 = omega (arith, twelve m h) in rw (get_or-take 
 put_out_requires : tie.Need-put_out-requires
 put_out_requires c κs =
     let s = c.before.before.before.before.before.before.before in
-    rw c.before.before.before.before.take_sums.ensures.0 (twelve s.args.m.now s.requires.0 ∙ sym s.requires.1.1, small s.args.m.now s.requires.0 s.requires.1.0)
+    rw c.before.before.before.before.take_sums-sums.ensures.0 (twelve s.args.m.now s.requires.0 ∙ sym s.requires.1.1, small s.args.m.now s.requires.0 s.requires.1.0)
 
 returns : tie.Need-returns
 unfolding closed silenced heard
 returns c =
-    let t = c.before.before.before.before.before.before.before.before.take_sums.ensures in
+    let t = c.before.before.before.before.before.before.before.before.take_sums-sums.ensures in
     (rw (c.next.ensures, t.1) refl, c.before.before.before.put_out.ensures ∙ ap (map put_out) t.0)
 
 pub close_spec : {M : Type 1} → statement M

@@ -11,30 +11,30 @@ use Rattle.frame.proofs.frame.Statement.{statement}
 use Rattle.frame.proofs.frame.Tie as tie
 
 -- the frame is not refused, so what was lent is right
-fine : (c : tie.After-enum-told) → let a = c.before.before.before.before.before.before.before.args in frame_answer a.m.now a.memory.now a.out.now ≡ Done
-fine c = sym c.before.before.refusal.ensures ∙ c.enum_told.given.1
+fine : (c : tie.In-Done) → let a = c.args in frame_answer a.m.now a.memory.now a.out.now ≡ Done
+fine c = sym c.refusal-a.ensures ∙ c.in-Done.is
 
-lent : (c : tie.After-enum-told) → let a = c.before.before.before.before.before.before.before.args in Ready a.m.now a.memory.now a.out.now
+lent : (c : tie.In-Done) → let a = c.args in Ready a.m.now a.memory.now a.out.now
 lent c = done_frame _ _ _ (fine c)
 
-returns : tie.Need-returns
-returns c = let r = c.before.refusal in frames_refused _ _ _ r.result r.ensures (is_refusal r.result c.match.keys2)
+returns : tie.Need-returns-in_default
+returns c = let r = c.refusal-a in frames_refused _ _ _ r.result r.ensures (is_refusal r.result c.in_default.in_default-own.keys2)
 
-play_requires : tie.Need-play-requires
+play_requires : tie.Need-play-missing-requires
 play_requires c κs = is_valid _ (lent c.before).machine
 
 close_requires : tie.Need-close-requires
 close_requires c κs =
     let t = c.before.before.before.before.before.before in
-    let p = c.before.before.before.before.play.ensures in
+    let p = c.play-missing.ensures in
     let s = subst Sound (sym p.0) (sound_played _ (lent t).machine) in
     (s.size, (sum_small _ (in_range s), (lent t).values))
 
-returns_2 : tie.Need-returns-2
+returns_2 : tie.Need-returns
 returns_2 c =
     let t = c.before.before.before.before.before.before.before.before.before.before in
-    let p = c.before.before.before.before.before.before.before.before.play.ensures in
-    let e = c.before.before.before.close.ensures in
+    let p = c.play-missing.ensures in
+    let e = c.close.ensures in
     frames_done _ _ _ _ _ _ (fine t) p.1 (e.0 ∙ ap closed p.0) (e.1 ∙ ap heard p.0)
 
 pub frame_spec : {M : Type 1} → statement M

@@ -35,24 +35,24 @@ record Playing (first memory lasts : List ℕ) (table : List ℤ) (slow n : ℕ)
   so_far : m ≡ turns memory v first
   number : missing ≡ missed_in_turns memory v first
 
-abbrev invariant-loop : tie.invariant-loop
+abbrev invariant-loop : tie.invariant-loop-v
 invariant-loop m₀ memory lasts table slow actv n missing₀ v₀ m missing v = Playing m₀ memory lasts table slow n m missing v
 
-abbrev decreases-loop : tie.decreases-loop
+abbrev decreases-loop : tie.decreases-loop-v
 decreases-loop m₀ memory lasts table slow actv n missing₀ v₀ m missing v = n - v
 
-loop_holds : tie.Need-loop-init invariant-loop decreases-loop
+loop_holds : tie.Need-loop-v-init invariant-loop decreases-loop
 unfolding turns missed_in_turns sum
 loop_holds c =
     let s = c.before.before.before.before.before.before.before in
     let r = sound s.args.m.now s.requires in
     record {
       whole = r;
-      near = c.before.before.before.before.lasts.ensures;
-      codes = c.before.before.before.values.ensures;
+      near = c.before.before.before.before.lasts-lasts.ensures;
+      codes = c.before.before.before.values-table.ensures;
       counter = refl;
-      active = c.count.ensures;
-      most = omega (arith, c.count.ensures, active_le s.args.m.now r);
+      active = c.count-n.ensures;
+      most = omega (arith, c.count-n.ensures, active_le s.args.m.now r);
       passed = omega arith;
       so_far = refl;
       number = refl;
@@ -60,7 +60,7 @@ loop_holds c =
 
 turn_requires : tie.Need-turn-requires invariant-loop decreases-loop
 turn_requires c κs =
-    let l = c.before.before.before.before.before.loop in
+    let l = c.before.before.before.before.before.loop-v in
     let memory = c.before.before.before.before.before.before.before.before.before.before.before.before.before.args.memory.now in
     let h = l.invariant in
     let few : l.v ≤ 32 = omega arith in (
@@ -74,10 +74,10 @@ turn_requires c κs =
       ),
     )
 
-loop_again : tie.Need-loop-preserved invariant-loop decreases-loop
+loop_again : tie.Need-loop-v-preserved invariant-loop decreases-loop
 unfolding turns missed_in_turns sum
 loop_again c =
-    let l = c.before.before.before.before.before.before.before.before.loop in
+    let l = c.before.before.before.before.before.before.before.before.loop-v in
     let memory = c.before.before.before.before.before.before.before.before.before.before.before.before.before.before.before.before.args.memory.now in
     let h = l.invariant in
     let t = c.before.before.turn in
@@ -94,9 +94,9 @@ loop_again c =
     }
 
 -- the record after the turns so far has as many words as the first
-same_length : tie.Need-same-length invariant-loop decreases-loop
+same_length : tie.Need-shape_of-m invariant-loop decreases-loop
 same_length c =
-    let l = c.before.loop in
+    let l = c.before.loop-v in
     let h = l.invariant in
     let memory = c.before.before.before.before.before.before.before.before.before.args.memory.now in
     ap length h.so_far ∙ (sound_turns memory l.v h.whole (omega arith)).size ∙ sym h.whole.size
@@ -104,12 +104,12 @@ same_length c =
 returns : tie.Need-returns invariant-loop decreases-loop
 unfolding played
 returns c =
-    let l = c.before.loop in
+    let l = c.before.loop-v in
     let h = l.invariant in
     let s = c.before.before.before.before.before.before.before.before.before in
     let memory = s.args.memory.now in
     let m = s.args.m.now in
-    let e : l.v ≡ get_or m ACTV 0 + 1 = omega (arith, h.active, h.passed, c.loop-test.false) in
+    let e : l.v ≡ get_or m ACTV 0 + 1 = omega (arith, h.active, h.passed, c.loop-v-test.false) in
     (h.so_far ∙ ap (λ (k : ℕ). turns memory k m) e, h.number ∙ ap (λ (k : ℕ). missed_in_turns memory k m) e ∙ missed_in-turns memory h.whole)
 
 pub play_spec : {M : Type 1} → statement M

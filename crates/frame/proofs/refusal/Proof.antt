@@ -15,20 +15,20 @@ use Rattle.frame.proofs.Answered.{refused_record, refused_voices, refused_memory
 use Rattle.frame.proofs.refusal.Statement.{statement}
 use Rattle.frame.proofs.refusal.Tie as tie
 
-fine : (c : tie.After-enum-told) → Sound c.before.before.before.before.before.args.m.now
-fine c = not_refused _ (sym c.before.before.check.ensures ∙ c.enum_told.given.1)
+fine : (c : tie.In-Done) → Sound c.before.before.before.before.args.m.now
+fine c = not_refused _ (sym c.before.check-a.ensures ∙ c.in-Done.is)
 
 -- ACTV is below the least, or not
-few : (c : tie.Then1) → too_few c.before.before.before.before.before.before.before.args.m.now ≡ true
-few c = lt-ltb (get_or c.before.before.before.before.before.before.before.args.m.now ACTV 0) LEAST_ACTV (omega (arith, c.if1.true))
+few : (c : tie.Then-m-lt-LEAST_ACTV) → too_few c.before.before.before.before.before.before.args.m.now ≡ true
+few c = lt-ltb (get_or c.before.before.before.before.before.before.args.m.now ACTV 0) LEAST_ACTV (omega (arith, c.if-m-lt-LEAST_ACTV.true))
 
-enough : (c : tie.Else1) → too_few c.before.before.before.before.before.before.before.args.m.now ≡ false
-enough c = le-ltb (get_or c.before.before.before.before.before.before.before.args.m.now ACTV 0) LEAST_ACTV (omega (arith, c.if1.false))
+enough : (c : tie.Else-m-lt-LEAST_ACTV) → too_few c.before.before.before.before.before.before.args.m.now ≡ false
+enough c = le-ltb (get_or c.before.before.before.before.before.before.args.m.now ACTV 0) LEAST_ACTV (omega (arith, c.if-m-lt-LEAST_ACTV.false))
 
-returns : tie.Need-returns
+returns : tie.Need-returns-in_default
 returns c =
-    let r = c.before.check in
-    r.ensures ∙ sym (refused_record _ _ _ (sym (ap is_done r.ensures) ∙ is_refusal r.result c.match.keys2))
+    let r = c.before.check-a in
+    r.ensures ∙ sym (refused_record _ _ _ (sym (ap is_done r.ensures) ∙ is_refusal r.result c.in_default.in_default-own.keys2))
 
 pub refusal_spec : {M : Type 1} → statement M
 refusal_spec =
@@ -39,11 +39,11 @@ refusal_spec =
     returns
     (λ c. omega (arith, (fine c.before).size))
     (λ c. sym (refused_voices _ _ _ (fine c.before.before) (few c)))
-    (λ c. sym (refused_memory _ _ _ (fine c.before.before.before) (enough c.before) c.if2.true))
-    (λ c. sym (refused_output _ _ _ (fine c.before.before.before.before) (enough c.before.before) c.before.if2.false c.if3.true))
+    (λ c. sym (refused_memory _ _ _ (fine c.before.before.before) (enough c.before) (omega arith)))
+    (λ c. sym (refused_output _ _ _ (fine c.before.before.before.before) (enough c.before.before) (omega arith) (omega arith)))
     (λ c. sym (not_refused_frame _ _ _ (record {
       machine = fine c.before.before.before.before;
       voices = enough c.before.before;
-      samples = c.before.if2.false;
-      values = c.if3.false;
+      samples = omega arith;
+      values = omega arith;
     }))))

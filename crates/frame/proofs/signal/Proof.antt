@@ -14,8 +14,8 @@ use Rattle.frame.proofs.signal.Statement.{statement}
 use Rattle.frame.proofs.signal.Tie as tie
 
 -- the flag that was asked
-waiting : (c : tie.Then1) → flag_of IRQ c.before.before.before.args.cr ≡ true
-waiting c = sym c.before.flag.ensures ∙ c.if1.true
+waiting : (c : tie.Then-flag) → flag_of IRQ c.before.before.before.args.cr ≡ true
+waiting c = sym c.before.flag.ensures ∙ c.if-flag.true
 
 -- what the mask has to take in
 taken_in : (s : tie.Start) (b : Bool) → flag_of IRQ s.args.cr ≡ b
@@ -26,27 +26,17 @@ mark_requires : tie.Need-mark-requires
 mark_requires c κs = let s = c.before.before.before.before in (s.requires.0, ((s.requires.1.0, omega arith), taken_in s true (waiting c.before)))
 
 -- the record is as long as it was
-long : (c : tie.After-mark) → length c.mark.new.0 ≡ RECORD_WORDS
-long c = c.mark.auto.0 ∙ c.before.before.before.before.before.requires.0
+long : (c : tie.After-mark) → length c.mark.new.m ≡ RECORD_WORDS
+long c = c.mark.auto.m ∙ c.before.before.before.before.before.requires.0
 
-returns : tie.Need-returns
-returns c =
-    let d = c.before.before.before.before in
-    let s = d.before.before.before.before.before in
-    let e = d.mark.ensures in
-    ap (λ (n : List ℕ). set n IRQV s.args.v) e
-    ∙ sym (signal_enters (with_mask s.args.m.now) _ _ (waiting d.before.before) (subst (λ (n : List ℕ). get_or n IRQV 0 ≡ NO_INTERRUPT) e c.if2.true))
+-- the test of the vector is not named, so that an edit of it is refused for its fact
+names_none : (m n : List ℕ) → m ≡ n → get_or m IRQV 0 ≡ NO_INTERRUPT → get_or n IRQV 0 ≡ NO_INTERRUPT
+names_none m n e h = subst (λ (x : List ℕ). get_or x IRQV 0 ≡ NO_INTERRUPT) e h
 
-returns_2 : tie.Need-returns-2
-returns_2 c =
-    let d = c.before.before.before.before in
-    let e = d.mark.ensures in
-    e ∙ sym (signal_occupied (with_mask d.before.before.before.before.before.args.m.now) _ _ (λ q. c.if2.false (subst (λ (n : List ℕ). get_or n IRQV 0 ≡ NO_INTERRUPT) (sym e) q)))
-
-returns_3 : tie.Need-returns-3
+returns_3 : tie.Need-returns-else-flag
 returns_3 c =
     let s = c.before.before.before in
-    let f : flag_of IRQ s.args.cr ≡ false = sym c.before.flag.ensures ∙ c.if1.false in
+    let f : flag_of IRQ s.args.cr ≡ false = sym c.before.flag.ensures ∙ c.if-flag.false in
     sym (signal_none (with_mask s.args.m.now) _ _ f ∙ masked_same s.args.m.now (sym (taken_in s false f)))
 
 pub signal_spec : {M : Type 1} → statement M
@@ -58,8 +48,16 @@ signal_spec =
     (λ c. omega (arith, long c.before.before.before))
     (λ c. search rules)
     (λ c. omega (arith, long c.before.before.before.before))
-    (λ c. simp length-set c.before.before.before.before.mark.auto.0)
-    returns
-    (λ c. c.before.before.before.before.mark.auto.0)
-    returns_2
+    (λ c. simp length-set c.before.before.before.before.mark.auto.m)
+    (λ c.
+    let d = c.before.before.before.before in
+    let s = d.before.before.before.before.before in
+    let e = d.mark.ensures in
+    ap (λ (n : List ℕ). set n IRQV s.args.v) e
+    ∙ sym (signal_enters (with_mask s.args.m.now) _ _ (waiting d.before.before) (names_none _ _ e (omega arith))))
+    (λ c. c.before.before.before.before.mark.auto.m)
+    (λ c.
+    let d = c.before.before.before.before in
+    let e = d.mark.ensures in
+    e ∙ sym (signal_occupied (with_mask d.before.before.before.before.before.args.m.now) _ _ (λ q. let r : get_or d.mark.new.m IRQV 0 ≡ NO_INTERRUPT = names_none _ _ (sym e) q in omega arith)))
     returns_3)

@@ -19,13 +19,13 @@ record Taking (before sums taken : List ℕ) (i : ℕ) : Type 0 where
   zero : (k : ℕ) → k < i → get_or sums k 0 ≡ 0
   left : (k : ℕ) → i ≤ k → get_or sums k 0 ≡ get_or before k 0
 
-abbrev invariant-loop : tie.invariant-loop
+abbrev invariant-loop : tie.invariant-loop-i
 invariant-loop sums₀ taken₀ i₀ sums taken i = Taking sums₀ sums taken i
 
-abbrev decreases-loop : tie.decreases-loop
+abbrev decreases-loop : tie.decreases-loop-i
 decreases-loop sums₀ taken₀ i₀ sums taken i = 12 - i
 
-loop_holds : tie.Need-loop-init invariant-loop decreases-loop
+loop_holds : tie.Need-loop-i-init invariant-loop decreases-loop
 loop_holds c = record {
   twelve = c.requires;
   same = c.requires;
@@ -36,9 +36,9 @@ loop_holds c = record {
   left = λ k h. refl;
 }
 
-loop_again : tie.Need-loop-preserved invariant-loop decreases-loop
+loop_again : tie.Need-loop-i-preserved invariant-loop decreases-loop
 loop_again c =
-    let l = c.before.before.loop in
+    let l = c.before.before.loop-i in
     let h = l.invariant in
     let before = c.before.before.before.args.sums.now in
     record {
@@ -53,7 +53,7 @@ loop_again c =
 
 returns : tie.Need-returns invariant-loop decreases-loop
 returns c =
-    let l = c.before.loop in
+    let l = c.before.loop-i in
     let h = l.invariant in
     let before = c.before.before.args.sums.now in (
       ext_get_or 0 l.taken before (h.room ∙ sym h.twelve) (λ k q. h.took k (omega arith)),

@@ -29,7 +29,7 @@ whole s = sound s.args.m.now s.requires.0
 twenty : (v : ℕ) → 20 * v + 20 - 20 * v ≡ 20
 twenty v = omega arith
 
-turn_requires : tie.Need-turn-requires
+turn_requires : tie.Need-turn-added-requires
 unfolding voice_at
 turn_requires c κs =
     let s = c.before.before.before.before in
@@ -45,27 +45,27 @@ module _ (s : tie.Start) (after : List ℕ) (a : Addend)
   part = 20 * s.args.v + 20 - 20 * s.args.v
 
   taken : TakesTurn s.args.memory.now (get_or s.args.m.now SLOW 0) (take part (drop (20 * s.args.v) s.args.m.now)) after a
-  taken = subst (λ (x : ℕ). TakesTurn s.args.memory.now x (take part (drop (20 * s.args.v) s.args.m.now)) after a) s.pre.1.1.0 p
+  taken = subst (λ (x : ℕ). TakesTurn s.args.memory.now x (take part (drop (20 * s.args.v) s.args.m.now)) after a) s.requires.1.1.0 p
 
   put_back : InRange (put_mid (20 * s.args.v) part s.args.m.now after)
-  put_back = back_range s.args.memory.now s.args.m.now s.args.v part after a (twenty s.args.v) taken (whole s) s.pre.1.0
+  put_back = back_range s.args.memory.now s.args.m.now s.args.v part after a (twenty s.args.v) taken (whole s) s.requires.1.0
 
 add_requires : tie.Need-add-requires
 add_requires c κs =
-    let t = c.before.before.before.before.before.turn in
+    let t = c.before.before.before.before.before.turn-added in
     let p = t.ensures.0 in
-    let r = put_back c.before.before.before.before.before.before.before.before.before.before t.new.0 t.result p in
+    let r = put_back c.before.before.before.before.before.before.before.before.before.before t.new.w t.result p in
     (r.size, (sum_small _ r, (within tt (ranged w32 tt p.small_left), within tt (ranged w32 tt p.small_right))))
 
 -- and with what the turn adds, which is as long
-added_size : (c : tie.After-add) → length c.add.new.0 ≡ RECORD_WORDS
-added_size c = let t = c.before.before.before.before.before.before.turn in c.add.auto.0 ∙ (put_back c.before.before.before.before.before.before.before.before.before.before.before t.new.0 t.result t.ensures.0).size
+added_size : (c : tie.After-add) → length c.add.new.m ≡ RECORD_WORDS
+added_size c = let t = c.before.before.before.before.before.before.turn-added in c.add.auto.m ∙ (put_back c.before.before.before.before.before.before.before.before.before.before.before t.new.w t.result t.ensures.0).size
 
 -- whose mask lacks the voice's flag at most, which is what `signal` asks
 signal_requires : tie.Need-signal-requires
 signal_requires c κs =
     let a = c.before.before.before.before.add in
-    let t = c.before.before.before.before.before.before.before.before.before.before.turn in
+    let t = c.before.before.before.before.before.before.before.before.before.before.turn-added in
     let s = c.before.before.before.before.before.before.before.before.before.before.before.before.before.before.before in
     let v = s.args.v in
     let p = t.ensures.0 in (
@@ -73,8 +73,8 @@ signal_requires c κs =
       (
         s.requires.1.0,
         rw (a.ensures, (ranged w32 tt p.small_left).is, (ranged w32 tt p.small_right).is)
-            (mask_lacks s.args.memory.now s.args.m.now v (part s t.new.0 t.result p) t.new.0 t.result (twenty v)
-            (taken s t.new.0 t.result p) (whole s) s.requires.1.0),
+            (mask_lacks s.args.memory.now s.args.m.now v (part s t.new.w t.result p) t.new.w t.result (twenty v)
+            (taken s t.new.w t.result p) (whole s) s.requires.1.0),
       ),
     )
 
@@ -82,7 +82,7 @@ returns : tie.Need-returns
 unfolding voice_at
 returns c =
     let a = c.before.before.before.before.before.before.before.add in
-    let t = c.before.before.before.before.before.before.before.before.before.before.before.before.before.turn in
+    let t = c.before.before.before.before.before.before.before.before.before.before.before.before.before.turn-added in
     let s = c.before.before.before.before.before.before.before.before.before.before.before.before.before.before.before.before.before.before in
     let v = s.args.v in
     let m = s.args.m.now in
@@ -90,7 +90,7 @@ returns c =
     let p = t.ensures.0 in (
       c.before.before.signal.ensures
           ∙ rw (a.ensures, (ranged w32 tt p.small_left).is, (ranged w32 tt p.small_right).is)
-          (turn_taken memory m v (part s t.new.0 t.result p) t.new.0 t.result (twenty v) (taken s t.new.0 t.result p) (whole s) s.requires.1.0),
+          (turn_taken memory m v (part s t.new.w t.result p) t.new.w t.result (twenty v) (taken s t.new.w t.result p) (whole s) s.requires.1.0),
       t.ensures.1 ∙ ap (λ (n : ℕ). s.args.missing.now + missed_by memory (voice_of (take n (drop (20 * v) m)))) (twenty v),
     )
 

@@ -2,13 +2,13 @@
 -- not keep. Assumes nothing.
 use mathlib.Core.Path.{◌≡◌, refl, sym, ◌∙◌}
 use mathlib.Core.Bool.{Bool, true, false, cond}
-use Prim.Native.Nat.{◌+◌, ◌*◌, ◌-◌, ◌≤◌}
+use Prim.Native.Nat.{ℕ, ◌+◌, ◌*◌, ◌-◌, ◌<◌, ◌≤◌}
 use native.Mathlib.Omega.{arith}
 use lib.ListN.{get_or}
 use borrow.Author.Rules.{rules}
 use borrow.Author.Tests.{eq-eqb, ne_eqb, lt-ltb, le-ltb}
 use Rattle.answer.specs.declared.Answer.TheVariants.{Done, RecordInvalid}
-use Rattle.machine.specs.Words.{shared_bits, is_vector, IRQV}
+use Rattle.machine.specs.Words.{shared_bits, is_vector, IRQV, VOICES, NO_INTERRUPT}
 use Rattle.machine.specs.Kept.{gathered_kept, clear, Lanes}
 use Rattle.machine.specs.Check.{checked}
 use Rattle.machine.proofs.Kept.{lanes_and_mask}
@@ -17,63 +17,64 @@ use Rattle.machine.proofs.Answers.{check_size, check_words, check_vector}
 use Rattle.machine.proofs.check.Statement.{statement}
 use Rattle.machine.proofs.check.Tie as tie
 
-abbrev invariant-loop : tie.invariant-loop
+abbrev invariant-loop : tie.invariant-loop-g
 invariant-loop m kept stray₀ g₀ stray g = (g ≤ 4) × Lanes stray (gathered_kept m (4 * g))
 
-abbrev decreases-loop : tie.decreases-loop
+abbrev decreases-loop : tie.decreases-loop-g
 decreases-loop m kept stray₀ g₀ stray g = 4 - g
 
-returns : tie.Need-returns invariant-loop decreases-loop
-returns c = sym (check_size _ c.if1.true)
+returns : tie.Need-returns-then-m-ne-RECORD_WORDS invariant-loop decreases-loop
+returns c = sym (check_size _ c.if-m-ne-RECORD_WORDS.true)
 
-loop_holds : tie.Need-loop-init invariant-loop decreases-loop
+loop_holds : tie.Need-loop-g-init invariant-loop decreases-loop
 unfolding gathered_kept clear
 loop_holds c = (omega arith, record { four = refl; tell = refl })
 
 look_at_four_requires : tie.Need-look_at_four-requires invariant-loop decreases-loop
-look_at_four_requires c κs = (omega arith, (omega arith, (refl, c.before.before.before.loop.invariant.1)))
+look_at_four_requires c κs = (omega arith, (omega arith, (refl, c.before.before.before.loop-g.invariant.1)))
 
-loop_again : tie.Need-loop-preserved invariant-loop decreases-loop
+loop_again : tie.Need-loop-g-preserved invariant-loop decreases-loop
 loop_again c =
-    let e : 4 * (c.before.before.before.before.loop.g + 1) ≡ 4 * c.before.before.before.before.loop.g + 4 = omega arith in
+    let e : 4 * (c.before.before.before.before.loop-g.g + 1) ≡ 4 * c.before.before.before.before.loop-g.g + 4 = omega arith in
     (omega arith, rw e c.look_at_four.ensures)
 
 look_at_rest_requires : tie.Need-look_at_rest-requires invariant-loop decreases-loop
 unfolding shared_bits
 look_at_rest_requires c κs =
-    let e : 4 * c.before.before.before.loop.g ≡ 16 = omega arith in
-    (omega arith, (refl, rw e at c.before.before.before.loop.invariant.1))
+    let e : 4 * c.before.before.before.loop-g.g ≡ 16 = omega arith in
+    (omega arith, (refl, rw e at c.before.before.before.loop-g.invariant.1))
 
-returns_2 : tie.Need-returns-2 invariant-loop decreases-loop
+returns_2 : tie.Need-returns-then-stray-false_bits-ne0 invariant-loop decreases-loop
 returns_2 c =
     let g = c.before in
     let e = g.before.before.before.before.before.before.before in
     let m = e.before.before.args.m.now in
-    sym (check_words m e.if1.false
-    (sym (lanes_and_mask m _ g.before.before.look_at_rest.ensures g.gather_flags.ensures ∙ words_test m) ∙ ne_eqb _ _ c.if2.true))
+    sym (check_words m e.if-m-ne-RECORD_WORDS.false
+    (sym (lanes_and_mask m _ g.before.before.look_at_rest.ensures g.gather_flags.ensures ∙ words_test m) ∙ ne_eqb _ _ c.if-stray-false_bits-ne0.true))
 
 -- past that test, the vector decides
-by_vector : (c : tie.Else2 invariant-loop decreases-loop) (b : Bool)
+by_vector : (c : tie.Else-stray-false_bits-ne0 invariant-loop decreases-loop) (b : Bool)
     → is_vector (get_or c.before.before.before.before.before.before.before.before.before.before.args.m.now IRQV 0) ≡ b
     → cond b Done RecordInvalid ≡ checked c.before.before.before.before.before.before.before.before.before.before.args.m.now
 by_vector c b q =
     let g = c.before in
     let e = g.before.before.before.before.before.before.before in
     let m = e.before.before.args.m.now in
-    sym (check_vector m e.if1.false
-    (sym (lanes_and_mask m _ g.before.before.look_at_rest.ensures g.gather_flags.ensures ∙ words_test m) ∙ eq-eqb _ _ c.if2.false) b q)
+    sym (check_vector m e.if-m-ne-RECORD_WORDS.false
+    (sym (lanes_and_mask m _ g.before.before.look_at_rest.ensures g.gather_flags.ensures ∙ words_test m) ∙ eq-eqb _ _ c.if-stray-false_bits-ne0.false) b q)
 
-returns_3 : tie.Need-returns-3 invariant-loop decreases-loop
+-- a number is a vector or none by its two tests; the tests of the code are not named, so that an edit of one is refused for its fact
+voice_vector : (x : ℕ) → x < VOICES → is_vector x ≡ true
 unfolding is_vector
-returns_3 c = by_vector c.before.before true (rw (lt-ltb _ _ c.if3.true))
+voice_vector x h = rw (lt-ltb x VOICES h)
 
-returns_4 : tie.Need-returns-4 invariant-loop decreases-loop
+none_vector : (x : ℕ) → VOICES ≤ x → x ≡ NO_INTERRUPT → is_vector x ≡ true
 unfolding is_vector
-returns_4 c = by_vector c.before.before.before true (rw (le-ltb _ _ c.before.if3.false, eq-eqb _ _ c.if4.true))
+none_vector x h e = rw (le-ltb x VOICES h, eq-eqb x NO_INTERRUPT e)
 
-returns_5 : tie.Need-returns-5 invariant-loop decreases-loop
+no_vector : (x : ℕ) → VOICES ≤ x → (x ≡ NO_INTERRUPT → ⊥) → is_vector x ≡ false
 unfolding is_vector
-returns_5 c = by_vector c.before.before.before false (rw (le-ltb _ _ c.before.if3.false, ne_eqb _ _ c.if4.false))
+no_vector x h e = rw (le-ltb x VOICES h, ne_eqb x NO_INTERRUPT e)
 
 pub check_spec : {M : Type 1} → statement M
 check_spec =
@@ -98,6 +99,6 @@ check_spec =
     returns_2
     (λ c. search rules)
     (λ c. search rules)
-    returns_3
-    returns_4
-    returns_5)
+    (λ c. by_vector c.before.before true (voice_vector _ (omega arith)))
+    (λ c. by_vector c.before.before.before true (none_vector _ (omega arith) (omega arith)))
+    (λ c. by_vector c.before.before.before false (no_vector _ (omega arith) (omega arith))))

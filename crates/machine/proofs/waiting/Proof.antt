@@ -9,16 +9,16 @@ use Rattle.machine.proofs.Answers.{not_refused, waiting_refused, waiting_done}
 use Rattle.machine.proofs.waiting.Statement.{statement}
 use Rattle.machine.proofs.waiting.Tie as tie
 
-done : (c : tie.After-enum-told) → checked c.before.before.before.before.args.m.now ≡ Done
-done c = sym c.before.before.check.ensures ∙ c.enum_told.given.1
+done : (c : tie.In-Done) → checked c.before.before.before.args.m.now ≡ Done
+done c = sym c.before.check-a.ensures ∙ c.in-Done.is
 
-returns : tie.Need-returns
-returns c = let r = c.before.check in waiting_refused _ r.result r.ensures (is_refusal r.result c.match.keys2)
+returns : tie.Need-returns-in_default
+returns c = let r = c.before.check-a in waiting_refused _ r.result r.ensures (is_refusal r.result c.in_default.in_default-own.keys2)
 
-shared_slice_read_t5 : tie.Need-shared-slice-read-t5
+shared_slice_read_t5 : tie.Need-bounds-m-663
 shared_slice_read_t5 c = omega (arith, (not_refused _ (done c.before)).size)
 
-returns_2 : tie.Need-returns-2
+returns_2 : tie.Need-returns
 returns_2 c = waiting_done _ (sym (done c.before))
 
 pub waiting_spec : {M : Type 1} → statement M

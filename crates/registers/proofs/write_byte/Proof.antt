@@ -11,17 +11,15 @@ use Rattle.registers.proofs.write_byte.Tie as tie
 fine : (c : tie.Start) → Sound c.args.m.now
 fine c = sound c.args.m.now c.requires.0
 
-returns : tie.Need-returns
-unfolding written_to
-returns c = rw (c.before.with_byte.ensures, ne_eqb _ _ c.if1.true)
-
-returns_2 : tie.Need-returns-2
+returns_2 : tie.Need-returns
 unfolding written_to
 returns_2 c =
     let d = c.before.before.before.before in
-    rw (c.before.before.store.ensures, d.decode.ensures.0, d.before.before.before.with_byte.ensures, eq-eqb _ _ d.before.before.if1.false)
+    rw (c.before.before.store.ensures, d.decode-register.ensures.0, d.before.before.before.with_byte-latch.ensures, eq-eqb c.args.k 3 (omega arith))
 
+-- the test of k is not named, so that an edit of it is refused for its fact
 pub write_byte_spec : {M : Type 1} → statement M
+unfolding written_to
 write_byte_spec =
     tie.close
     (tie.spec
@@ -29,10 +27,10 @@ write_byte_spec =
     (λ c κs. search rules)
     (λ c. omega (arith, (fine c.before.before.before.before).size))
     (λ c. search rules)
-    returns
+    (λ c. rw (c.with_byte-latch.ensures, ne_eqb c.args.k 3 (omega arith)))
     (λ c. omega (arith, (fine c.before.before.before.before.before).size))
     (λ c κs. search rules)
     (λ c κs. search rules)
-    (λ c. omega (arith, c.before.before.store.auto.0, (fine c.before.before.before.before.before.before.before.before.before.before).size))
-    (λ c. simp length-set c.before.before.store.auto.0)
+    (λ c. omega (arith, c.before.before.store.auto.m, (fine c.before.before.before.before.before.before.before.before.before.before).size))
+    (λ c. simp length-set c.before.before.store.auto.m)
     returns_2)

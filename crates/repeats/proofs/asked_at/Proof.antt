@@ -12,6 +12,6 @@ asked_at_spec =
     (tie.spec
     (λ c. search rules)
     (λ c. search rules)
-    (λ c. omega (arith, c.shared-slice-known.given (c.before.args.at + 3)))
-    (λ c. omega (arith, c.shared-slice-known.given (c.before.args.at + 3)))
-    (λ c. (refl, omega (arith, c.shared-slice-known.given (c.before.args.at + 3)))))
+    (λ c. omega (arith, c.shared_slice_known-1.given (c.before.args.at + 3)))
+    (λ c. omega (arith, c.shared_slice_known-1.given (c.before.args.at + 3)))
+    (λ c. (refl, omega (arith, c.shared_slice_known-1.given (c.before.args.at + 3)))))

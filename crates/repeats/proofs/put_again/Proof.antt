@@ -9,25 +9,25 @@ use Rattle.repeats.proofs.Full.{again_next, again_all}
 use Rattle.repeats.proofs.put_again.Statement.{statement}
 use Rattle.repeats.proofs.put_again.Tie as tie
 
-abbrev invariant-loop : tie.invariant-loop
+abbrev invariant-loop : tie.invariant-loop-i
 invariant-loop full₀ from to bytes i₀ full i = (full ≡ paste full₀ to (drop from full₀) i) × (i ≤ bytes) × (length full ≡ length full₀)
 
-abbrev decreases-loop : tie.decreases-loop
+abbrev decreases-loop : tie.decreases-loop-i
 decreases-loop full₀ from to bytes i₀ full i = bytes - i
 
-loop_holds : tie.Need-loop-init invariant-loop decreases-loop
+loop_holds : tie.Need-loop-i-init invariant-loop decreases-loop
 loop_holds c = (paste-zero c.args.full.now c.args.to (drop c.args.from c.args.full.now), search rules, search rules)
 
-loop_again : tie.Need-loop-preserved invariant-loop decreases-loop
+loop_again : tie.Need-loop-i-preserved invariant-loop decreases-loop
 loop_again c =
-    let l = c.before.before.loop in
+    let l = c.before.before.loop-i in
     let a = c.before.before.before.args in
     let p = c.before.before.before.requires in
     (rw l.invariant.0 (again_next a.full.now a.from a.to a.bytes p.0 p.1 l.i (omega arith)), omega arith, search rules)
 
 returns : tie.Need-returns invariant-loop decreases-loop
 returns c =
-    let l = c.before.loop in
+    let l = c.before.loop-i in
     let a = c.before.before.args in
     let p = c.before.before.requires in
     let e : l.i ≡ a.bytes = omega (arith, l.invariant.1) in

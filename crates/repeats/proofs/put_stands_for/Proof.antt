@@ -11,63 +11,63 @@ use Rattle.repeats.proofs.put_stands_for.Statement.{statement}
 use Rattle.repeats.proofs.put_stands_for.Tie as tie
 
 -- where it repeats others
-module _ (c : tie.After-asked_at) where
+module _ (c : tie.After-asked_at-asked) where
   abbrev start : tie.Start
   start = c.before.before.before.before.before.before
 
   repeats : repeats_at start.args.commands.now start.args.at start.args.n ≡ true
-  repeats = sym c.before.before.before.repeats_at.ensures ∙ c.before.before.if1.true
+  repeats = sym c.before.before.before.repeats_at.ensures ∙ c.before.before.if-repeats_at.true
 
   there_for_it : (asked_at start.args.commands.now start.args.at ≤ back_at start.args.commands.now start.args.at)
       × (back_at start.args.commands.now start.args.at ≤ start.args.n)
   there_for_it = there start.args.commands.now start.args.at start.args.n repeats
 
-sub_put_again : tie.Need-overflow_sub-put_again
+sub_put_again : tie.Need-overflow_sub-n
 sub_put_again c =
     let b = c.before in
-    omega (arith, b.before.back_at.ensures, b.asked_at.ensures.0, (there_for_it b).0, (there_for_it b).1)
+    omega (arith, b.before.back_at-back.ensures, b.asked_at-asked.ensures.0, (there_for_it b).0, (there_for_it b).1)
 
 put_again_requires : tie.Need-put_again-requires
 put_again_requires c κs =
     let b = c.before in
     let s = start b in
-    let fits = again_fits s.args.full.now s.args.commands.now s.args.at s.args.n s.pre.0 s.pre.1 (repeats b) in
-    (omega (arith, b.before.back_at.ensures, b.asked_at.ensures.0, (there_for_it b).0, (there_for_it b).1), rw b.asked_at.ensures.0 fits)
+    let fits = again_fits s.args.full.now s.args.commands.now s.args.at s.args.n s.requires.0 s.requires.1 (repeats b) in
+    (omega (arith, b.before.back_at-back.ensures, b.asked_at-asked.ensures.0, (there_for_it b).0, (there_for_it b).1), rw b.asked_at-asked.ensures.0 fits)
 
 -- where it does not
-module _ (c : tie.After-shared-slice-known5) where
+module _ (c : tie.After-shared_slice_known-else-repeats_at-4-1) where
   abbrev start' : tie.Start
   start' = c.before.before.before.before.before.before.before.before.before
 
   itself : repeats_at start'.args.commands.now start'.args.at start'.args.n ≡ false
-  itself = sym c.before.before.before.before.before.before.repeats_at.ensures ∙ c.before.before.before.before.before.if1.false
+  itself = sym c.before.before.before.before.before.before.repeats_at.ensures ∙ c.before.before.before.before.before.if-repeats_at.false
 
 put4_requires : tie.Need-put4-requires
 put4_requires c κs =
     let s = start' c in
-    omega (arith, itself_long s.args.full.now s.args.commands.now s.args.at s.args.n s.pre.0 s.pre.1 (itself c), s.pre.1)
+    omega (arith, itself_long s.args.full.now s.args.commands.now s.args.at s.args.n s.requires.0 s.requires.1 (itself c), s.requires.1)
 
-returns : tie.Need-returns
+returns : tie.Need-returns-then-repeats_at
 returns c =
     let b = c.before.before.before.before in
     let s = start b in
     let full = s.args.full.now in
     let commands = s.args.commands.now in
-    let e = b.asked_at.ensures.0 in (
-      e ∙ again_long full commands s.args.at s.args.n s.pre.0 s.pre.1 (repeats b),
+    let e = b.asked_at-asked.ensures.0 in (
+      e ∙ again_long full commands s.args.at s.args.n s.requires.0 s.requires.1 (repeats b),
       c.before.before.put_again.ensures
-          ∙ (λ i. with_part full s.args.n (part full (s.args.n - b.before.back_at.ensures i) (e i)))
-          ∙ ap (with_part full s.args.n) (stands_again full commands s.args.at s.args.n s.pre.0 s.pre.1 (repeats b)),
+          ∙ (λ i. with_part full s.args.n (part full (s.args.n - b.before.back_at-back.ensures i) (e i)))
+          ∙ ap (with_part full s.args.n) (stands_again full commands s.args.at s.args.n s.requires.0 s.requires.1 (repeats b)),
     )
 
-returns_2 : tie.Need-returns-2
+returns_2 : tie.Need-returns-else-repeats_at
 returns_2 c =
     let b = c.before.before.before in
     let s = start' b in
     let full = s.args.full.now in
     let commands = s.args.commands.now in (
-      itself_long full commands s.args.at s.args.n s.pre.0 s.pre.1 (itself b),
-      c.before.before.put4.ensures ∙ ap (with_part full s.args.n) (stands_itself full commands s.args.at s.args.n s.pre.0 s.pre.1 (itself b)),
+      itself_long full commands s.args.at s.args.n s.requires.0 s.requires.1 (itself b),
+      c.before.before.put4.ensures ∙ ap (with_part full s.args.n) (stands_itself full commands s.args.at s.args.n s.requires.0 s.requires.1 (itself b)),
     )
 
 pub put_stands_for_spec : {M : Type 1} → statement M

@@ -7,7 +7,7 @@ use Rattle.repeats.proofs.repeats_at.Tie as tie
 
 returns : tie.Need-returns
 unfolding repeats_at
-returns c = rw (c.before.before.back_at.ensures, c.before.asked_at.ensures.0) refl
+returns c = rw (c.before.before.back_at-back.ensures, c.before.asked_at-asked.ensures.0) refl
 
 pub repeats_at_spec : {M : Type 1} → statement M
 repeats_at_spec = tie.close (tie.spec (λ c κs. search rules) (λ c κs. search rules) (λ c. search rules) returns)

@@ -12,8 +12,8 @@ use Rattle.sample.proofs.fetch.Tie as tie
 words_at_requires : tie.Need-words_at-requires
 words_at_requires c κs =
     let s = c.before.before.before.before.before in
-    let b = c.before.before.before.bank in
-    below_last (length s.args.memory.now) b.result (s.args.accum / 2048) (omega arith) c.before.place.ensures c.place2.ensures
+    let b = c.before.before.before.bank-bank in
+    below_last (length s.args.memory.now) b.result (s.args.accum / 2048) (omega arith) c.before.place.ensures c.place-2.ensures
     (s.requires.0.each b.result b.ensures.1)
 
 returns : tie.Need-returns
@@ -22,10 +22,10 @@ returns c =
     let s = c.before.before.before.before.before.before in
     let memory = s.args.memory.now in
     let i = s.args.accum / 2048 in
-    let b = c.before.before.before.before.bank.ensures.0 in
+    let b = c.before.before.before.before.bank-bank.ensures.0 in
     c.words_at.ensures
     ∙ same_words (ap (word_at memory) (c.before.before.place.ensures ∙ ap (λ (x : ℕ). x * 2097152 + i) b))
-    (ap (word_at memory) (c.before.place2.ensures ∙ ap (λ (x : ℕ). x * 2097152 + (i + 1) % 2097152) b))
+    (ap (word_at memory) (c.before.place-2.ensures ∙ ap (λ (x : ℕ). x * 2097152 + (i + 1) % 2097152) b))
 
 pub fetch_spec : {M : Type 1} → statement M
 fetch_spec =

@@ -5,15 +5,15 @@ use Rattle.sample.specs.Lasts.{last_of}
 use Rattle.sample.proofs.last.Statement.{statement}
 use Rattle.sample.proofs.last.Tie as tie
 
-returns : tie.Need-returns
+returns : tie.Need-returns-then-n-eq0
 unfolding last_of
 returns c = omega arith
 
-returns_2 : tie.Need-returns-2
+returns_2 : tie.Need-returns-then-n-to
 unfolding last_of
 returns_2 c = omega arith
 
-returns_3 : tie.Need-returns-3
+returns_3 : tie.Need-returns-else-n-to
 unfolding last_of
 returns_3 c = omega arith
 

@@ -5,7 +5,7 @@ use Rattle.scores.proofs.command_at.Statement.{statement}
 use Rattle.scores.proofs.command_at.Tie as tie
 
 returns : tie.Need-returns
-returns c = c.command_of.ensures ∙ rw c.before.before.before.big2_at.ensures refl
+returns c = c.command_of.ensures ∙ rw c.before.before.before.big2_at-n.ensures refl
 
 pub command_at_spec : {M : Type 1} → statement M
 command_at_spec =

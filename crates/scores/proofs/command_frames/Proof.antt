@@ -15,15 +15,15 @@ none : (k : Command) (b : Bool) → b ≡ is_frame_ask k.ask → b ≡ false →
 unfolding frames_of
 none k b e t = rw (sym e ∙ t)
 
-returns : tie.Need-returns
+returns : tie.Need-returns-then-is_frame
 returns c =
     let a = c.before.before in
-    (are a.before.args.c a.is_frame.result a.is_frame.ensures c.before.if1.true, search rules)
+    (are a.before.args.c a.is_frame.result a.is_frame.ensures c.before.if-is_frame.true, search rules)
 
-returns_2 : tie.Need-returns-2
+returns_2 : tie.Need-returns-else-is_frame
 returns_2 c =
     let a = c.before in
-    (none a.before.args.c a.is_frame.result a.is_frame.ensures c.if1.false, search rules)
+    (none a.before.args.c a.is_frame.result a.is_frame.ensures c.if-is_frame.false, search rules)
 
 pub command_frames_spec : {M : Type 1} → statement M
 command_frames_spec = tie.close (tie.spec (λ c κs. search rules) (λ c. search rules) returns returns_2)

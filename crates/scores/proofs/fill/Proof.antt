@@ -12,10 +12,10 @@ use Rattle.scores.specs.Score.{Filled}
 use Rattle.scores.proofs.fill.Statement.{statement}
 use Rattle.scores.proofs.fill.Tie as tie
 
-abbrev invariant-loop : tie.invariant-loop
+abbrev invariant-loop : tie.invariant-loop-i
 invariant-loop memory₀ score i₀ i-end memory i = (i-end ≡ length memory₀) × (length memory ≡ length memory₀) × (i ≤ i-end) × Filled i score memory
 
-abbrev decreases-loop : tie.decreases-loop
+abbrev decreases-loop : tie.decreases-loop-i
 decreases-loop memory₀ score i₀ i-end memory i = i-end - i
 
 -- one word more
@@ -26,18 +26,18 @@ next score memory i x h e f k l = at (ℕ_discrete k i)
     at (yes q) = rw q (get_or-set_same memory i x 0 h ∙ e)
     at (no q) = get_or-set_other memory i k x 0 q ∙ f k (omega arith)
 
-loop_holds : tie.Need-loop-init invariant-loop decreases-loop
+loop_holds : tie.Need-loop-i-init invariant-loop decreases-loop
 loop_holds c = (refl, refl, omega arith, λ k h. absurd (let z : ⊥ = omega arith in z))
 
-loop_again : tie.Need-loop-preserved invariant-loop decreases-loop
+loop_again : tie.Need-loop-i-preserved invariant-loop decreases-loop
 loop_again c =
-    let l = c.before.before.loop in
+    let l = c.before.before.loop-i in
     let score = c.before.before.before.before.before.args.score.now in
     let filled = next score l.memory l.i c.big2_at.result (omega arith) c.big2_at.ensures l.invariant.3 in
     (refl, length-set l.memory l.i c.big2_at.result ∙ l.invariant.1, omega arith, filled)
 
 returns : tie.Need-returns invariant-loop decreases-loop
-returns c k h = c.before.loop.invariant.3 k (omega arith)
+returns c k h = c.before.loop-i.invariant.3 k (omega arith)
 
 pub fill_spec : {M : Type 1} → statement M
 fill_spec =

@@ -13,14 +13,14 @@ use Rattle.scores.specs.declared.Command.{Command}
 use Rattle.scores.proofs.frames_of.Statement.{statement}
 use Rattle.scores.proofs.frames_of.Tie as tie
 
-abbrev invariant-loop : tie.invariant-loop
+abbrev invariant-loop : tie.invariant-loop-k
 invariant-loop commands n₀ k₀ k-end n k =
     (n ≡ sum k (λ j. frames_of (command_no commands j))) × (n ≤ k * 4294967296) × (k ≤ k-end) × (k-end ≡ command_count commands) × (length commands ≤ MOST_FULL_BYTES)
 
-abbrev decreases-loop : tie.decreases-loop
+abbrev decreases-loop : tie.decreases-loop-k
 decreases-loop commands n₀ k₀ k-end n k = k-end - k
 
-loop_holds : tie.Need-loop-init invariant-loop decreases-loop
+loop_holds : tie.Need-loop-k-init invariant-loop decreases-loop
 unfolding sum
 loop_holds c = (refl, omega arith, omega arith, refl, c.before.requires)
 
@@ -30,13 +30,13 @@ next : (commands : List ℕ) (n k r : ℕ) (c : Command) → n ≡ sum k (λ j. 
 unfolding sum
 next commands n k r c e f g = rw (add-one, e, g, f) refl
 
-loop_again : tie.Need-loop-preserved invariant-loop decreases-loop
+loop_again : tie.Need-loop-k-preserved invariant-loop decreases-loop
 loop_again c =
     let a = c.before in
-    let l = a.before.before.loop in
+    let l = a.before.before.loop-k in
     let commands = a.before.before.before.before.args.commands.now in (
-      next commands l.n l.k c.command_frames.result a.command_at.result l.invariant.0 a.command_at.ensures c.command_frames.ensures.0,
-      omega (arith, l.invariant.1, c.command_frames.ensures.1),
+      next commands l.n l.k c.command_frames-n.result a.command_at.result l.invariant.0 a.command_at.ensures c.command_frames-n.ensures.0,
+      omega (arith, l.invariant.1, c.command_frames-n.ensures.1),
       omega arith,
       refl,
       l.invariant.4,
@@ -45,7 +45,7 @@ loop_again c =
 returns : tie.Need-returns invariant-loop decreases-loop
 unfolding all_frames
 returns c =
-    let l = c.before.loop in
+    let l = c.before.loop-k in
     let commands = c.before.before.before.args.commands.now in
     let e : l.k ≡ command_count commands = omega (arith, l.invariant.3, l.invariant.2) in
     l.invariant.0 ∙ ap (λ (k : ℕ). sum k (λ j. frames_of (command_no commands j))) e

@@ -17,11 +17,11 @@ below : (w : ℕ) → 32768 ≤ w → w < 65536 → 65536 - w ≡ nat_abs (signe
 unfolding signed
 below w h l = rw (le-ltb w 32768 h, lt-ltb w 65536 l) (omega arith)
 
-returns : tie.Need-returns
-returns c = above c.before.args.w c.if1.true
+returns : tie.Need-returns-then-w-lt32768
+returns c = above c.before.args.w c.if-w-lt32768.true
 
-returns_2 : tie.Need-returns-2
-returns_2 c = below c.before.args.w c.if1.false (omega arith)
+returns_2 : tie.Need-returns-else-w-lt32768
+returns_2 c = below c.before.args.w c.if-w-lt32768.false (omega arith)
 
 pub magnitude_spec : {M : Type 1} → statement M
 magnitude_spec = tie.close (tie.spec (λ c. search rules) returns returns_2)

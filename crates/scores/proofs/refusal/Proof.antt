@@ -41,11 +41,11 @@ refused SampleFormat e = refl
 refused LoopInvalid e = refl
 refused NoPlace e = refl
 
-returns : tie.Need-returns
-returns c = done c.before.before.args.a (sym c.before.number.ensures ∙ c.if1.true)
+returns : tie.Need-returns-then-number-eq0
+returns c = done c.before.before.args.a (sym c.before.number.ensures ∙ c.if-number-eq0.true)
 
-returns_2 : tie.Need-returns-2
-returns_2 c = refused c.before.before.args.a (λ e. c.if1.false (c.before.number.ensures ∙ e))
+returns_2 : tie.Need-returns-else-number-eq0
+returns_2 c = refused c.before.before.args.a (λ e. c.if-number-eq0.false (c.before.number.ensures ∙ e))
 
 pub refusal_spec : {M : Type 1} → statement M
 refusal_spec = tie.close (tie.spec (λ c κs. search rules) returns returns_2)

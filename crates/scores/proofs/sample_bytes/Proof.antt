@@ -32,12 +32,12 @@ read values side g₀ g₁ g₂ g₃ g₄ g₅ =
 left : (c : tie.After-heard) → c.heard.result ≡ word 16 (heard_of (side_of 0 c.before.before.before.before.before.before.before.args.out.now))
 left c =
     let values = c.before.before.before.before.before.before.before.args.out.now in
-    c.heard.ensures ∙ ap (λ (z : ℤ). word 16 (heard_of z)) (read values 0 c.before.before.before.before.before.before.heard-arg.given c.before.before.before.before.before.heard-arg2.given c.before.before.before.before.heard-arg3.given c.before.before.before.heard-arg4.given c.before.before.heard-arg5.given c.before.heard-arg6.given)
+    c.heard.ensures ∙ ap (λ (z : ℤ). word 16 (heard_of z)) (read values 0 c.before.before.before.before.before.before.heard-arg-1.given c.before.before.before.before.before.heard-arg-2-1.given c.before.before.before.before.heard-arg-3-1.given c.before.before.before.heard-arg-4-1.given c.before.before.heard-arg-5-1.given c.before.heard-arg-6-1.given)
 
-right : (c : tie.After-heard2) → c.heard2.result ≡ word 16 (heard_of (side_of 1 c.before.before.before.before.before.before.before.before.before.before.before.before.before.before.before.args.out.now))
+right : (c : tie.After-heard-2) → c.heard-2.result ≡ word 16 (heard_of (side_of 1 c.before.before.before.before.before.before.before.before.before.before.before.before.before.before.before.args.out.now))
 right c =
     let values = c.before.before.before.before.before.before.before.before.before.before.before.before.before.before.before.args.out.now in
-    c.heard2.ensures ∙ ap (λ (z : ℤ). word 16 (heard_of z)) (read values 1 c.before.before.before.before.before.before.heard-arg7.given c.before.before.before.before.before.heard-arg8.given c.before.before.before.before.heard-arg9.given c.before.before.before.heard-arg10.given c.before.before.heard-arg11.given c.before.heard-arg12.given)
+    c.heard-2.ensures ∙ ap (λ (z : ℤ). word 16 (heard_of z)) (read values 1 c.before.before.before.before.before.before.heard-arg-7-1.given c.before.before.before.before.before.heard-arg-8-1.given c.before.before.before.before.heard-arg-9-1.given c.before.before.before.heard-arg-10-1.given c.before.before.heard-arg-11-1.given c.before.heard-arg-12-1.given)
 
 -- two bytes and two more
 joined : (values : List ℤ) (l r : List ℕ) → l ≡ little_bytes 2 (word 16 (heard_of (side_of 0 values))) → r ≡ little_bytes 2 (word 16 (heard_of (side_of 1 values)))
@@ -49,7 +49,7 @@ returns : tie.Need-returns
 returns c =
     let a = c.before in
     let b = a.before.before.before.before.before.before.before in
-    joined _ b.little_bytes2.result c.little_bytes22.result (b.little_bytes2.ensures ∙ ap (little_bytes 2) (left b.before)) (c.little_bytes22.ensures ∙ ap (little_bytes 2) (right a))
+    joined _ b.little_bytes2-l.result c.little_bytes2-r.result (b.little_bytes2-l.ensures ∙ ap (little_bytes 2) (left b.before)) (c.little_bytes2-r.ensures ∙ ap (little_bytes 2) (right a))
 
 pub sample_bytes_spec : {M : Type 1} → statement M
 sample_bytes_spec =

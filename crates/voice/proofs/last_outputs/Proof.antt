@@ -24,9 +24,9 @@ returns c =
     let a = c.before.before.before.before.before.before in
     let r = a.before.before.before.requires.1 in
     let n1 = number _ r.o1n1 a.number_of.type_inv a.number_of.ensures in
-    let n2 = number _ r.o2n1 c.before.before.before.before.number_of2.type_inv c.before.before.before.before.number_of2.ensures in
-    let n3 = number _ r.o3n1 c.before.before.number_of3.type_inv c.before.before.number_of3.ensures in
-    let n4 = number _ r.o4n1 c.number_of4.type_inv c.number_of4.ensures in
+    let n2 = number _ r.o2n1 c.before.before.before.before.number_of-2.type_inv c.before.before.before.before.number_of-2.ensures in
+    let n3 = number _ r.o3n1 c.before.before.number_of-3.type_inv c.before.before.number_of-3.ensures in
+    let n4 = number _ r.o4n1 c.number_of-4.type_inv c.number_of-4.ensures in
     (λ i. record { o1 = n1.0 i; o2 = n2.0 i; o3 = n3.0 i; o4 = n4.0 i }, record { o1 = n1.1; o2 = n2.1; o3 = n3.1; o4 = n4.1 })
 
 pub last_outputs_spec : {M : Type 1} → statement M

@@ -15,8 +15,8 @@ unfolding after_step
 returns c =
     let s = c.before.before.before.before in
     let v = voice_of s.args.w.now in
-    let e : c.step.result ≡ stepped v.cr v.fc v.start v.end v.accum = c.step.ensures.0 ∙ rw (s.requires.1.0.0, s.requires.1.1.0, s.requires.1.1.1) in
-    place_stored s.args.w.now s.requires.0 c.step.result ∙ ap (λ (a : Place). words_of (moved v a (levels_of v))) e
+    let e : c.step-p.result ≡ stepped v.cr v.fc v.start v.end v.accum = c.step-p.ensures.0 ∙ rw (s.requires.1.0.0, s.requires.1.1.0, s.requires.1.1.1) in
+    place_stored s.args.w.now s.requires.0 c.step-p.result ∙ ap (λ (a : Place). words_of (moved v a (levels_of v))) e
 
 pub step_past_spec : {M : Type 1} → statement M
 step_past_spec =

@@ -7,44 +7,44 @@ use Rattle.wave.proofs.Collecting.{Progress, begun, stops, next_on, too_short, o
 use Rattle.wave.proofs.collect.Statement.{statement}
 use Rattle.wave.proofs.collect.Tie as tie
 
-abbrev invariant-loop : tie.invariant-loop
+abbrev invariant-loop : tie.invariant-loop-at
 invariant-loop file end found₀ at₀ found at = Progress file end found at
 
-abbrev decreases-loop : tie.decreases-loop
+abbrev decreases-loop : tie.decreases-loop-at
 decreases-loop file end found₀ at₀ found at = end - at
 
-loop_holds : tie.Need-loop-init invariant-loop decreases-loop
-loop_holds c = begun _ _ _ c.nothing.ensures c.before.before.requires.0
+loop_holds : tie.Need-loop-at-init invariant-loop decreases-loop
+loop_holds c = begun _ _ _ c.nothing-found.ensures c.before.before.requires.0
 
 chunk_at_requires : tie.Need-chunk_at-requires invariant-loop decreases-loop
-chunk_at_requires c κs = (c.before.loop.invariant.within, c.before.before.before.before.requires.1)
+chunk_at_requires c κs = (c.before.loop-at.invariant.within, c.before.before.before.before.requires.1)
 
-returns : tie.Need-returns invariant-loop decreases-loop
+returns : tie.Need-returns-in_default invariant-loop decreases-loop
 returns c =
-    let t = c.before.before in
-    stops t.before.before.loop.invariant t.chunk_at.result t.chunk_at.ensures t.before.loop-test.true c.enum_told.given.1
+    let t = c.before in
+    stops t.before.before.loop-at.invariant t.chunk_at.result t.chunk_at.ensures t.before.loop-at-test.true c.in_default.is
 
-returns_2 : tie.Need-returns-2 invariant-loop decreases-loop
+returns_2 : tie.Need-returns-then-is_short invariant-loop decreases-loop
 returns_2 c =
-    let k = c.before.before.before in
-    let t = k.before.before in
-    too_short t.before.before.loop.invariant t.chunk_at.result t.chunk_at.ensures t.before.loop-test.true _ _ k.chunk.given.1 (sym c.before.is_short.ensures ∙ c.if1.true)
+    let k = c.before.before in
+    let t = k.before in
+    too_short t.before.before.loop-at.invariant t.chunk_at.result t.chunk_at.ensures t.before.loop-at-test.true _ _ k.in-Whole.is (sym c.before.is_short.ensures ∙ c.if-is_short.true)
 
-loop_less : tie.Need-loop-smaller invariant-loop decreases-loop
+loop_less : tie.Need-loop-at-smaller invariant-loop decreases-loop
 loop_less c =
-    let k = c.before.before.before.before in
-    let t = k.before.before in
-    let h = next_on t.before.before.loop.invariant t.chunk_at.result t.chunk_at.ensures t.before.loop-test.true _ _ k.chunk.given.1 in
-    omega (arith, h, t.before.loop-test.true)
+    let k = c.before.before.before in
+    let t = k.before in
+    let h = next_on t.before.before.loop-at.invariant t.chunk_at.result t.chunk_at.ensures t.before.loop-at-test.true _ _ k.in-Whole.is in
+    omega (arith, h, t.before.loop-at-test.true)
 
-loop_again : tie.Need-loop-preserved invariant-loop decreases-loop
+loop_again : tie.Need-loop-at-preserved invariant-loop decreases-loop
 loop_again c =
-    let k = c.before.before.before.before in
-    let t = k.before.before in
-    one_more t.before.before.loop.invariant t.chunk_at.result t.chunk_at.ensures t.before.loop-test.true _ _ k.chunk.given.1 (sym c.before.before.is_short.ensures ∙ c.before.if1.false) _ c.with_chunk.ensures
+    let k = c.before.before.before in
+    let t = k.before in
+    one_more t.before.before.loop-at.invariant t.chunk_at.result t.chunk_at.ensures t.before.loop-at-test.true _ _ k.in-Whole.is (sym c.before.before.is_short.ensures ∙ c.before.if-is_short.false) _ c.with_chunk-found.ensures
 
-returns_3 : tie.Need-returns-3 invariant-loop decreases-loop
-returns_3 c = all_read c.before.loop.invariant c.loop-test.false
+returns_3 : tie.Need-returns invariant-loop decreases-loop
+returns_3 c = all_read c.before.loop-at.invariant c.loop-at-test.false
 
 pub collect_spec : {M : Type 1} → statement M
 collect_spec =

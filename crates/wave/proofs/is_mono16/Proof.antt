@@ -6,7 +6,7 @@ use Rattle.wave.proofs.is_mono16.Tie as tie
 
 returns : tie.Need-returns
 unfolding is_mono16
-returns c = rw (c.before.before.little2_at.ensures, c.before.little2_at2.ensures, c.little2_at3.ensures)
+returns c = rw (c.before.before.little2_at.ensures, c.before.little2_at-2.ensures, c.little2_at-3.ensures)
 
 pub is_mono16_spec : {M : Type 1} → statement M
 is_mono16_spec =

@@ -21,9 +21,9 @@ little4_at_requires c κs =
     let s = c.before in
     omega (arith, has_loops s.args.file.now s.args.c s.requires.1)
 
-returns : tie.Need-returns
+returns : tie.Need-returns-then-little4_at-eq0
 unfolding loop_in
-returns c = rw (← c.before.little4_at.ensures, c.if1.true)
+returns c = rw (← c.before.little4_at.ensures, c.if-little4_at-eq0.true)
 
 little4_at_requires_2 : tie.Need-little4_at-requires-2
 little4_at_requires_2 c κs =
@@ -40,11 +40,11 @@ little4_at_requires_4 c κs =
     let s = c.before.before.before.before.before in
     omega (arith, has_loops s.args.file.now s.args.c s.requires.1, c.before.before.before.little4_at.ensures)
 
-returns_2 : tie.Need-returns-2
+returns_2 : tie.Need-returns
 unfolding loop_in
 returns_2 c =
     let f = c.before.before.before in
-    rw (ne_eqb _ 0 (rw f.before.little4_at.ensures at f.if1.false), c.before.before.little4_at2.ensures, c.before.little4_at3.ensures, c.little4_at4.ensures)
+    rw (ne_eqb _ 0 (rw f.before.little4_at.ensures at f.if-little4_at-eq0.false), c.before.before.little4_at-2.ensures, c.before.little4_at-3.ensures, c.little4_at-4.ensures)
 
 pub loop_in_spec : {M : Type 1} → statement M
 loop_in_spec =

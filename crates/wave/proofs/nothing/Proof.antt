@@ -6,7 +6,7 @@ use Rattle.wave.proofs.nothing.Tie as tie
 
 returns : tie.Need-returns
 unfolding named
-returns c = rw (c.before.before.none.ensures, c.before.none2.ensures, c.none3.ensures)
+returns c = rw (c.before.before.none.ensures, c.before.none-2.ensures, c.none-3.ensures)
 
 pub nothing_spec : {M : Type 1} → statement M
 nothing_spec = tie.close (tie.spec (λ c κs. search rules) (λ c κs. search rules) (λ c κs. search rules) returns)

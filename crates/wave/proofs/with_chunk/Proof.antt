@@ -5,11 +5,11 @@ use Rattle.wave.proofs.Keeping.{other_kept}
 use Rattle.wave.proofs.with_chunk.Statement.{statement}
 use Rattle.wave.proofs.with_chunk.Tie as tie
 
-returns : tie.Need-returns
-returns c = other_kept _ _ (sym c.before.is_other.ensures ∙ c.if1.true)
+returns : tie.Need-returns-then-is_other
+returns c = other_kept _ _ (sym c.before.is_other.ensures ∙ c.if-is_other.true)
 
-returns_2 : tie.Need-returns-2
-returns_2 c = rw (c.before.before.before.before.keep.ensures, c.before.before.keep2.ensures, c.keep3.ensures, c.before.before.before.before.before.format2.ensures, c.before.before.before.«data».ensures, c.before.sampler2.ensures)
+returns_2 : tie.Need-returns
+returns_2 c = rw (c.before.before.before.before.keep.ensures, c.before.before.keep-2.ensures, c.keep-3.ensures, c.before.before.before.before.before.format.ensures, c.before.before.before.«data».ensures, c.before.sampler.ensures)
 
 pub with_chunk_spec : {M : Type 1} → statement M
 with_chunk_spec =

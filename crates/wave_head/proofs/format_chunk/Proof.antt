@@ -22,8 +22,8 @@ returns c =
     let r = s.before in
     let h = r.before in
     are_chunk h.before.args.channels h.before.args.rate
-    h.little_bytes2.result r.little_bytes4.result s.little_bytes42.result c.little_bytes22.result
-    h.little_bytes2.ensures r.little_bytes4.ensures s.little_bytes42.ensures c.little_bytes22.ensures
+    h.little_bytes2-c.result r.little_bytes4-r.result s.little_bytes4-s.result c.little_bytes2-b.result
+    h.little_bytes2-c.ensures r.little_bytes4-r.ensures s.little_bytes4-s.ensures c.little_bytes2-b.ensures
 
 pub format_chunk_spec : {M : Type 1} → statement M
 format_chunk_spec =

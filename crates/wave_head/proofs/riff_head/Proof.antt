@@ -14,7 +14,7 @@ unfolding riff_head little_bytes little
 are_head bytes n e = rw e refl
 
 returns : tie.Need-returns
-returns c = are_head c.before.args.bytes c.little_bytes4.result c.little_bytes4.ensures
+returns c = are_head c.before.args.bytes c.little_bytes4-n.result c.little_bytes4-n.ensures
 
 pub riff_head_spec : {M : Type 1} → statement M
 riff_head_spec = tie.close (tie.spec (λ c. search rules) (λ c κs. search rules) (λ c. search rules) (λ c. search rules) (λ c. search rules) (λ c. search rules) returns)

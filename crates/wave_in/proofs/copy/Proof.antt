@@ -11,37 +11,37 @@ use Rattle.wave_in.proofs.Copied.{one_more, all_copied}
 use Rattle.wave_in.proofs.copy.Statement.{statement}
 use Rattle.wave_in.proofs.copy.Tie as tie
 
-abbrev invariant-loop : tie.invariant-loop
+abbrev invariant-loop : tie.invariant-loop-i
 invariant-loop words₀ bytes i₀ i-end words i = (words ≡ take i (twos little bytes) ++ drop i words₀) × (i ≤ i-end) × (i-end ≡ length words₀) × (length words ≡ length words₀)
 
-abbrev decreases-loop : tie.decreases-loop
+abbrev decreases-loop : tie.decreases-loop-i
 decreases-loop words₀ bytes i₀ i-end words i = i-end - i
 
-loop_holds : tie.Need-loop-init invariant-loop decreases-loop
+loop_holds : tie.Need-loop-i-init invariant-loop decreases-loop
 loop_holds c = (refl, omega arith, refl, refl)
 
-loop_again : tie.Need-loop-preserved invariant-loop decreases-loop
+loop_again : tie.Need-loop-i-preserved invariant-loop decreases-loop
 loop_again c =
     let t = c.before.before.before.before in
     let a = t.before.before.before in
-    let v = t.loop.invariant in
+    let v = t.loop-i.invariant in
     let w = twos little a.args.bytes.now in
     let n = twos-length little a.args.bytes.now (length a.args.words.now) a.requires in
-    let h : t.loop.i < length w = omega arith in
-    let k : t.loop.i < length a.args.words.now = omega arith in (
-      rw v.0 (one_more w a.args.words.now t.loop.i c.little2.result h k (c.little2.ensures ∙ sym (twos_at little a.args.bytes.now t.loop.i h))),
+    let h : t.loop-i.i < length w = omega arith in
+    let k : t.loop-i.i < length a.args.words.now = omega arith in (
+      rw v.0 (one_more w a.args.words.now t.loop-i.i c.little2.result h k (c.little2.ensures ∙ sym (twos_at little a.args.bytes.now t.loop-i.i h))),
       omega arith,
       refl,
-      length-set t.loop.words t.loop.i c.little2.result ∙ v.3,
+      length-set t.loop-i.words t.loop-i.i c.little2.result ∙ v.3,
     )
 
 returns : tie.Need-returns invariant-loop decreases-loop
 returns c =
     let t = c.before in
     let a = t.before.before.before in
-    let v = t.loop.invariant in
+    let v = t.loop-i.invariant in
     let n = twos-length little a.args.bytes.now (length a.args.words.now) a.requires in
-    v.0 ∙ all_copied (twos little a.args.bytes.now) a.args.words.now t.loop.i n (omega arith)
+    v.0 ∙ all_copied (twos little a.args.bytes.now) a.args.words.now t.loop-i.i n (omega arith)
 
 pub copy_spec : {M : Type 1} → statement M
 copy_spec =
@@ -61,5 +61,5 @@ copy_spec =
     (λ c. search rules)
     (λ c. search rules)
     loop_again
-    (λ c. c.before.loop.invariant.3)
+    (λ c. c.before.loop-i.invariant.3)
     returns)

@@ -4,13 +4,13 @@ use Rattle.wave_in.specs.Registers.{end_of}
 use Rattle.wave_in.proofs.end_of.Statement.{statement}
 use Rattle.wave_in.proofs.end_of.Tie as tie
 
-returns : tie.Need-returns
+returns : tie.Need-returns-in-Absent
 unfolding end_of
-returns c = rw c.enum_told.given.1
+returns c = rw c.in-Absent.is
 
-returns_2 : tie.Need-returns-2
+returns_2 : tie.Need-returns-in-Present
 unfolding end_of
-returns_2 c = rw c.before.before.l.given.1 c.register_at.ensures
+returns_2 c = rw c.before.in-Present.is c.register_at.ensures
 
 pub end_of_spec : {M : Type 1} → statement M
 end_of_spec =

@@ -8,7 +8,7 @@ returns : tie.Need-returns
 returns c =
     let t = c.before.before in
     let s = t.before.before.before.before.before.before.before in
-    put_back s.args.file.now s.args.memory.now s.args.pcm s.args.word s.requires t.copy.new.0 t.copy.ensures
+    put_back s.args.file.now s.args.memory.now s.args.pcm s.args.word s.requires t.copy.new.words t.copy.ensures
 
 pub fill_spec : {M : Type 1} → statement M
 fill_spec =

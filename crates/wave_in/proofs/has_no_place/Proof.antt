@@ -4,20 +4,20 @@ use Rattle.wave_in.proofs.Placed.{too_many, too_far, in_memory}
 use Rattle.wave_in.proofs.has_no_place.Statement.{statement}
 use Rattle.wave_in.proofs.has_no_place.Tie as tie
 
-returns : tie.Need-returns
+returns : tie.Need-returns-then-room-count
 returns c =
     let a = c.before.args in
-    too_many a.room a.word a.count a.l c.if1.true
+    too_many a.room a.word a.count a.l c.if-room-count.true
 
-returns_2 : tie.Need-returns-2
+returns_2 : tie.Need-returns-then-room-count-2
 returns_2 c =
     let a = c.before.before.args in
-    too_far a.room a.word a.count a.l c.before.if1.false c.if2.true
+    too_far a.room a.word a.count a.l c.before.if-room-count.false c.if-room-count-2.true
 
-returns_3 : tie.Need-returns-3
+returns_3 : tie.Need-returns
 returns_3 c =
     let a = c.before.before.before.args in
-    in_memory a.room a.word a.count a.l c.before.before.if1.false c.before.if2.false c.end_of.result c.end_of.ensures
+    in_memory a.room a.word a.count a.l c.before.before.if-room-count.false c.before.if-room-count-2.false c.end_of.result c.end_of.ensures
 
 pub has_no_place_spec : {M : Type 1} → statement M
 has_no_place_spec =
