@@ -1,8 +1,8 @@
 -- What a turn, the turns and the closing leave, voice by voice and word by word; and what is put out.
 -- In order: what a turn does with a voice's words (`words_after`), and what it adds to each sum (`portion`, `share`); the parts of a turn
--- (`added-…`); the turn (`turn_word`, `turn_vector`, `turn_sum`, `turn_same`, `turn_other`); the turns of voices 0 to k - 1 (`shares`, `Turned`,
--- `slow_stays`, `turned`, `all_turned`), which do not say what becomes of the vector (Vector does); the closing (`silenced-…`, `closed-…`,
--- `sound_closed`); both (`closed_stays`); the output (`heard-…`).
+-- (`added_…`); the turn (`turn_word`, `turn_vector`, `turn_sum`, `turn_same`, `turn_other`); the turns of voices 0 to k - 1 (`shares`, `Turned`,
+-- `slow_stays`, `turned`, `all_turned`), which do not say what becomes of the vector (Vector does); the closing (`silenced_…`, `closed_…`,
+-- `sound_closed`); both (`closed_stays`); the output (`heard_length`, `heard_same`).
 -- That a turn and the turns keep a record valid is Keeps, and what one voice's turn does to its own registers is the crate `voice`.
 -- Assumes nothing.
 use mathlib.Core.Path.{◌≡◌, refl, sym, ap, ◌∙◌}
@@ -52,9 +52,9 @@ share memory slow w i = let t = turn_of memory slow (voice_of w) in portion (cha
 -- ---- the parts of a turn
 
 module _ (m : List ℕ) (v CR : ℕ) where
-  signalled-word : (i : ℕ) → i ≢ IRQV → get_or (signalled m v CR) i 0 ≡ get_or m i 0
+  signalled_word : (i : ℕ) → i ≢ IRQV → get_or (signalled m v CR) i 0 ≡ get_or m i 0
   unfolding signalled
-  signalled-word i h = either (λ r. get_or r i 0 ≡ get_or m i 0) (flag_of IRQ CR && eqb (get_or m IRQV 0) NO_INTERRUPT) (set m IRQV v) m
+  signalled_word i h = either (λ r. get_or r i 0 ≡ get_or m i 0) (flag_of IRQ CR && eqb (get_or m IRQV 0) NO_INTERRUPT) (set m IRQV v) m
       (λ _. get_or-set_other m IRQV i v 0 h) (λ _. refl)
 
   -- the vector, if it is empty, takes a voice that waits
@@ -79,9 +79,9 @@ added_to_same m i j z e h = rw e (get_or-set_same m i (mixed (get_or m i 0) (wor
 
 module _ (m : List ℕ) (channel : ℕ) (left right : ℤ) where
   -- a word that is no sum
-  pub added-word : (i : ℕ) → ((c : ℕ) → c < 12 → i ≢ SUMS + c) → get_or (added m channel left right) i 0 ≡ get_or m i 0
+  pub added_word : (i : ℕ) → ((c : ℕ) → c < 12 → i ≢ SUMS + c) → get_or (added m channel left right) i 0 ≡ get_or m i 0
   unfolding added
-  added-word i d =
+  added_word i d =
       let n = added_to m (SUMS + 2 * channel) left in
       either (λ r. get_or r i 0 ≡ get_or m i 0) (ltb channel 6) (added_to n (SUMS + 2 * channel + 1) right) m
       (λ t.
@@ -99,9 +99,9 @@ module _ (m : List ℕ) (channel : ℕ) (left right : ℤ) where
       ∙ added_to_voice m (SUMS + 2 * channel) left u l h (omega arith))
       (λ _. refl)
 
-  pub added-length : length (added m channel left right) ≡ length m
+  pub added_length : length (added m channel left right) ≡ length m
   unfolding added
-  added-length =
+  added_length =
       let n = added_to m (SUMS + 2 * channel) left in
       either (λ r. length r ≡ length m) (ltb channel 6) (added_to n (SUMS + 2 * channel + 1) right) m
       (λ _. added_to-length n (SUMS + 2 * channel + 1) right ∙ added_to-length m (SUMS + 2 * channel) left)
@@ -138,9 +138,9 @@ module _ (m : List ℕ) (channel : ℕ) (left right : ℤ) where
     unfolding portion
     no_portion k = rw (ne_eqb i (2 * channel) (λ e. omega arith), ne_eqb i (2 * channel + 1) (λ e. omega arith))
 
-    added-sum : get_or (added m channel left right) (SUMS + i) 0 ≡ (get_or m (SUMS + i) 0 + portion channel left right i) % 8388608
+    added_sum : get_or (added m channel left right) (SUMS + i) 0 ≡ (get_or m (SUMS + i) 0 + portion channel left right i) % 8388608
     unfolding added
-    added-sum = either (λ r. get_or r (SUMS + i) 0 ≡ (get_or m (SUMS + i) 0 + portion channel left right i) % 8388608) (ltb channel 6) _ m
+    added_sum = either (λ r. get_or r (SUMS + i) 0 ≡ (get_or m (SUMS + i) 0 + portion channel left right i) % 8388608) (ltb channel 6) _ m
         (λ t. both_added (ltb-true channel 6 t))
         (λ t. rw (no_portion (ltb-false channel 6 t)) nothing_added)
 
@@ -176,7 +176,7 @@ module _ (memory : List ℕ) (v : ℕ) (m : List ℕ) (s : Sound m) (h : v < 32)
   -- the words between the voices and the sums stay, but for the vector
   pub turn_word : (i : ℕ) → PAGE ≤ i → i < SUMS → i ≢ IRQV → get_or (turn_at memory v m) i 0 ≡ get_or m i 0
   unfolding turn_at put words_after
-  turn_word i k l d = signalled-word _ v _ i d ∙ added-word _ _ _ _ i (λ c b e. omega arith) ∙ put_word i k (λ e. omega arith)
+  turn_word i k l d = signalled_word _ v _ i d ∙ added_word _ _ _ _ i (λ c b e. omega arith) ∙ put_word i k (λ e. omega arith)
 
   -- the vector, by the flag as the turn leaves it
   pub turn_vector : get_or (turn_at memory v m) IRQV 0
@@ -184,20 +184,20 @@ module _ (memory : List ℕ) (v : ℕ) (m : List ℕ) (s : Sound m) (h : v < 32)
   unfolding turn_at put words_after
   turn_vector =
       let t = turn_of memory (get_or m SLOW 0) (voice_of (voice_at m v)) in
-      let e = added-word put (channel_of (get_or (voice_at m v) 0 0)) t.left t.right IRQV (λ c b z. omega arith) ∙ put_word IRQV (lit≤ tt) (λ z. omega arith) in
-      signalled_vector _ v _ (added-length _ _ _ _ ∙ put_size)
+      let e = added_word put (channel_of (get_or (voice_at m v) 0 0)) t.left t.right IRQV (λ c b z. omega arith) ∙ put_word IRQV (lit≤ tt) (λ z. omega arith) in
+      signalled_vector _ v _ (added_length _ _ _ _ ∙ put_size)
       ∙ ap (λ (x : ℕ). cond (flag_of IRQ t.voice.cr && eqb x NO_INTERRUPT) v x) e
 
   pub turn_sum : (i : ℕ) → i < 12 → get_or (turn_at memory v m) (SUMS + i) 0 ≡ (get_or m (SUMS + i) 0 + share memory (get_or m SLOW 0) (voice_at m v) i) % 8388608
   unfolding turn_at put words_after share
   turn_sum i k =
-      signalled-word _ v _ (SUMS + i) (λ e. omega arith) ∙ added-sum _ _ _ _ put_sound i k
+      signalled_word _ v _ (SUMS + i) (λ e. omega arith) ∙ added_sum _ _ _ _ put_sound i k
       ∙ ap (λ (x : ℕ). (x + share memory (get_or m SLOW 0) (voice_at m v) i) % 8388608) (put_word (SUMS + i) (omega arith) (λ e. omega arith))
 
   -- a voice after it, from the same voice with the new words put
   turn_voice : (u : ℕ) → u < 32 → voice_at (turn_at memory v m) u ≡ voice_at put u
   unfolding turn_at put words_after
-  turn_voice u k = signalled_voice _ v _ u (added-length _ _ _ _ ∙ put_size) k ∙ added_voice _ _ _ _ u put_size k
+  turn_voice u k = signalled_voice _ v _ u (added_length _ _ _ _ ∙ put_size) k ∙ added_voice _ _ _ _ u put_size k
 
   pub turn_same : voice_at (turn_at memory v m) v ≡ words_after memory (get_or m SLOW 0) (voice_at m v)
   unfolding put
@@ -274,18 +274,18 @@ module _ (m : List ℕ) (s : Sound m) where
   low_length : length (take SUMS m) ≡ SUMS
   low_length = length-take-le SUMS m (omega (arith, s.size))
 
-  silenced-length : length (silenced m) ≡ RECORD_WORDS
+  silenced_length : length (silenced m) ≡ RECORD_WORDS
   unfolding silenced
-  silenced-length = simp (length-append, low_length, length-drop) (omega (arith, s.size))
+  silenced_length = simp (length-append, low_length, length-drop) (omega (arith, s.size))
 
-  pub silenced-word : (i : ℕ) → i < SUMS → get_or (silenced m) i 0 ≡ get_or m i 0
+  pub silenced_word : (i : ℕ) → i < SUMS → get_or (silenced m) i 0 ≡ get_or m i 0
   unfolding silenced
-  silenced-word i h =
+  silenced_word i h =
       get_or-append (take SUMS m) (replicate 12 0 ++ drop 12 (drop SUMS m)) 0 i (omega (arith, low_length)) ∙ get_or-take SUMS m i 0 h
 
-  silenced-sum : (i : ℕ) → i < 12 → get_or (silenced m) (SUMS + i) 0 ≡ 0
+  silenced_sum : (i : ℕ) → i < 12 → get_or (silenced m) (SUMS + i) 0 ≡ 0
   unfolding silenced
-  silenced-sum i h =
+  silenced_sum i h =
       ap (λ (n : ℕ). get_or (silenced m) (n + i) 0) (sym low_length)
       ∙ get_or-append-add (take SUMS m) (replicate 12 0 ++ drop 12 (drop SUMS m)) i 0
       ∙ get_or-append (replicate 12 0) (drop 12 (drop SUMS m)) 0 i h
@@ -307,33 +307,33 @@ module _ (m : List ℕ) (s : Sound m) where
   pub closed_voice : (v : ℕ) → v < 32 → voice_at (closed m) v ≡ voice_at m v
   unfolding closed next
   closed_voice v h =
-      voice_set_shared (silenced m) v SLOW next silenced-length h (omega arith)
-      ∙ voice_same (silenced m) m v v (omega (arith, silenced-length)) (omega (arith, s.size)) (λ j k. silenced-word (20 * v + j) (omega arith))
+      voice_set_shared (silenced m) v SLOW next silenced_length h (omega arith)
+      ∙ voice_same (silenced m) m v v (omega (arith, silenced_length)) (omega (arith, s.size)) (λ j k. silenced_word (20 * v + j) (omega arith))
 
-  pub closed-word : (i : ℕ) → i < SUMS → i ≢ SLOW → get_or (closed m) i 0 ≡ get_or m i 0
+  pub closed_word : (i : ℕ) → i < SUMS → i ≢ SLOW → get_or (closed m) i 0 ≡ get_or m i 0
   unfolding closed next
-  closed-word i h d = get_or-set_other (silenced m) SLOW i next 0 d ∙ silenced-word i h
+  closed_word i h d = get_or-set_other (silenced m) SLOW i next 0 d ∙ silenced_word i h
 
   pub closed_slow : get_or (closed m) SLOW 0 ≡ (get_or m SLOW 0 + 1) % 8
   unfolding closed next
   closed_slow =
-      get_or-set_same (silenced m) SLOW next 0 (omega (arith, silenced-length)) ∙ ap (λ (x : ℕ). (x + 1) % 8) (silenced-word SLOW (omega arith))
+      get_or-set_same (silenced m) SLOW next 0 (omega (arith, silenced_length)) ∙ ap (λ (x : ℕ). (x + 1) % 8) (silenced_word SLOW (omega arith))
 
-  pub closed-sum : (i : ℕ) → i < 12 → get_or (closed m) (SUMS + i) 0 ≡ 0
+  pub closed_sum : (i : ℕ) → i < 12 → get_or (closed m) (SUMS + i) 0 ≡ 0
   unfolding closed next
-  closed-sum i h = get_or-set_other (silenced m) SLOW (SUMS + i) next 0 (λ e. omega arith) ∙ silenced-sum i h
+  closed_sum i h = get_or-set_other (silenced m) SLOW (SUMS + i) next 0 (λ e. omega arith) ∙ silenced_sum i h
 
   silenced_sound : Sound (silenced m)
   unfolding cut
   silenced_sound = record {
-    size = silenced-length;
+    size = silenced_length;
     words = λ i h. cases i SUMS (bit_and (get_or (silenced m) i 0) (bits_of i) ≡ get_or (silenced m) i 0)
-        (λ l. rw (silenced-word i l) (s.words i h))
+        (λ l. rw (silenced_word i l) (s.words i h))
         (λ l. cases i WAIT_MASK (bit_and (get_or (silenced m) i 0) (bits_of i) ≡ get_or (silenced m) i 0)
-        (λ k. let e : i ≡ SUMS + (i - SUMS) = omega arith in rw e (rw (silenced-sum (i - SUMS) (omega arith)) refl))
+        (λ k. let e : i ≡ SUMS + (i - SUMS) = omega arith in rw e (rw (silenced_sum (i - SUMS) (omega arith)) refl))
         (λ k. let e : i ≡ WAIT_MASK = omega arith in rw (e, silenced_mask) (s.words WAIT_MASK (lit< tt))));
-    vector = rw (silenced-word IRQV (omega arith)) s.vector;
-    mask = silenced_mask ∙ s.mask ∙ sym (same_flags m (silenced m) (λ u k. silenced-word (20 * u + 0) (omega arith)));
+    vector = rw (silenced_word IRQV (omega arith)) s.vector;
+    mask = silenced_mask ∙ s.mask ∙ sym (same_flags m (silenced m) (λ u k. silenced_word (20 * u + 0) (omega arith)));
   }
 
   pub sound_closed : Sound (closed m)
@@ -344,16 +344,16 @@ module _ (m : List ℕ) (s : Sound m) where
 
 -- a word that neither the turns nor the closing touch
 pub closed_stays : {memory m m' : List ℕ} {k : ℕ} → Turned memory k m m' → (i : ℕ) → PAGE ≤ i → i < SUMS → i ≢ IRQV → i ≢ SLOW → get_or (closed m') i 0 ≡ get_or m i 0
-closed_stays {m' = m'} t i h l d e = closed-word m' t.sound i l e ∙ t.words i h l d
+closed_stays {m' = m'} t i h l d e = closed_word m' t.sound i l e ∙ t.words i h l d
 
 -- ---- the output
 
 sums_length : (m : List ℕ) → length m ≡ RECORD_WORDS → length (take 12 (drop SUMS m)) ≡ 12
 sums_length m h = length-take-le 12 (drop SUMS m) (simp length-drop (omega arith))
 
-pub heard-length : (m : List ℕ) → length m ≡ RECORD_WORDS → length (heard m) ≡ 12
+pub heard_length : (m : List ℕ) → length m ≡ RECORD_WORDS → length (heard m) ≡ 12
 unfolding heard
-heard-length m h = length-map (take 12 (drop SUMS m)) put_out ∙ sums_length m h
+heard_length m h = length-map (take 12 (drop SUMS m)) put_out ∙ sums_length m h
 
 -- the same sums are heard the same
 pub heard_same : (m n : List ℕ) → length m ≡ RECORD_WORDS → length n ≡ RECORD_WORDS → ((i : ℕ) → i < 12 → get_or m (SUMS + i) 0 ≡ get_or n (SUMS + i) 0) → heard m ≡ heard n

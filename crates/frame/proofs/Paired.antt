@@ -23,7 +23,7 @@ use Rattle.frame.specs.Missing.{missed_in}
 use Rattle.frame.specs.Frame.{played, heard, closed}
 use Rattle.frame.specs.Paired.{Paired}
 use Rattle.frame.proofs.Keeps.{active_le}
-use Rattle.frame.proofs.Leaves.{words_after, share, shares, Turned, slow_stays, all_turned, closed_voice, closed_slow, closed-sum, closed_stays, heard_same}
+use Rattle.frame.proofs.Leaves.{words_after, share, shares, Turned, slow_stays, all_turned, closed_voice, closed_slow, closed_sum, closed_stays, heard_same}
 
 -- a turn keeps P, and two voices in P add the same to each sum and miss as many words
 pub record KeptByTurns (P : List ℕ → List ℕ → Type 0) : Type 0 where
@@ -98,5 +98,5 @@ module _ {P : List ℕ → List ℕ → Type 0} (K : KeptByTurns P) (memory : Li
         closed_stays tm ACTV (lit≤ tt) (lit< tt) (λ e. omega arith) (λ e. omega arith) ∙ M.active
         ∙ sym (closed_stays tn ACTV (lit≤ tt) (lit< tt) (λ e. omega arith) (λ e. omega arith));
     slow = closed_slow (played memory m) tm.sound ∙ ap (λ (x : ℕ). (x + 1) % 8) (slow_stays tm ∙ M.slow ∙ sym (slow_stays tn)) ∙ sym (closed_slow (played memory n) tn.sound);
-    sums = λ i h. closed-sum (played memory m) tm.sound i h ∙ sym (closed-sum (played memory n) tn.sound i h);
+    sums = λ i h. closed_sum (played memory m) tm.sound i h ∙ sym (closed_sum (played memory n) tn.sound i h);
   }

@@ -33,7 +33,7 @@ use Rattle.voice.proofs.Flag.{turn_flag}
 use Rattle.frame.specs.Frame.{added_to, added, signalled, turn_at}
 use Rattle.frame.proofs.Steps.{added_none}
 use Rattle.frame.proofs.Keeps.{sum_small, words_length, turn_range}
-use Rattle.frame.proofs.Leaves.{added-word}
+use Rattle.frame.proofs.Leaves.{added_word}
 
 -- ---- nothing added
 
@@ -119,13 +119,13 @@ module _ (memory m : List ℕ) (v k : ℕ) (after : List ℕ) (a : Addend) (e : 
   back_control : get_or (added back a.channel a.left a.right) (voice_word v CR) 0 ≡ result.voice.cr
   unfolding words_of
   back_control =
-      added-word back a.channel a.left a.right (voice_word v CR) (λ c b q. omega arith) ∙ ap (λ (l : List ℕ). get_or l (voice_word v CR) 0) back_is
+      added_word back a.channel a.left a.right (voice_word v CR) (λ c b q. omega arith) ∙ ap (λ (l : List ℕ). get_or l (voice_word v CR) 0) back_is
       ∙ put_in m v (words_of result.voice) (words_length result.voice) fits CR (lit< tt)
 
   -- a word that is none of the voice's and no sum
   back_word : (i : ℕ) → ((c : ℕ) → c < 12 → i ≢ SUMS + c) → (20 * v ≤ i → i < 20 * v + 20 → ⊥) → get_or (added back a.channel a.left a.right) i 0 ≡ get_or m i 0
   back_word i n d =
-      added-word back a.channel a.left a.right i n ∙ ap (λ (l : List ℕ). get_or l i 0) back_is
+      added_word back a.channel a.left a.right i n ∙ ap (λ (l : List ℕ). get_or l i 0) back_is
       ∙ put_out_lem m v (words_of result.voice) (words_length result.voice) fits i d
 
   back_mask : get_or (added back a.channel a.left a.right) WAIT_MASK 0 ≡ get_or m WAIT_MASK 0

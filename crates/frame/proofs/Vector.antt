@@ -27,7 +27,7 @@ use Rattle.frame.specs.Frame.{turn_at, turns, played, closed, frame_answer, fram
 use Rattle.frame.specs.Vector.{LowestOf, lowest, none}
 use Rattle.frame.proofs.Answered.{done_frame}
 use Rattle.frame.proofs.Keeps.{sound_turns, active_le}
-use Rattle.frame.proofs.Leaves.{words_after, turn_vector, turn_same, turn_other, all_turned, closed_voice, closed-word, closed_stays, sound_closed}
+use Rattle.frame.proofs.Leaves.{words_after, turn_vector, turn_same, turn_other, all_turned, closed_voice, closed_word, closed_stays, sound_closed}
 
 -- a voice waits by its own words
 waits_voice : (m : List ℕ) (v : ℕ) → waits m v ≡ flag_of IRQ (get_or (voice_at m v) CR 0)
@@ -105,7 +105,7 @@ module _ (memory m : List ℕ) (s : Sound m) (e : get_or m IRQV 0 ≡ NO_INTERRU
   unfolding played
   closed_vector =
       let k = suc (get_or m ACTV 0) in
-      subst (LowestOf (get_or last WAIT_MASK 0) (get_or last ACTV 0)) (sym (closed-word (played memory m) turned_sound IRQV (lit< tt) (λ z. omega arith)))
+      subst (LowestOf (get_or last WAIT_MASK 0) (get_or last ACTV 0)) (sym (closed_word (played memory m) turned_sound IRQV (lit< tt) (λ z. omega arith)))
       (by_mask (get_or (played memory m) IRQV 0) (rw add-one (lowest_turned memory m s e k (omega (arith, active_le m s)))))
 
 -- a frame that is done and found the vector empty

@@ -11,7 +11,7 @@ use Rattle.machine.proofs.Valid.{Sound}
 use Rattle.frame.specs.Frame.{played}
 use Rattle.frame.specs.Paired.{Paired}
 use Rattle.frame.proofs.Keeps.{sound_played}
-use Rattle.frame.proofs.Leaves.{heard-length}
+use Rattle.frame.proofs.Leaves.{heard_length}
 use Rattle.frame.proofs.Paired.{KeptByTurns, heard_paired, missed_paired, closed_paired}
 use Rattle.calls.specs.Calls.{Frame, answer_to, after}
 use Rattle.calls.proofs.Runs.{frame_leaves, frame_sounds, frame_misses}
@@ -33,7 +33,7 @@ module _ (memory : List ℕ) (s : ℕ → ℕ) (m n : List ℕ) (sm : Sound m) (
   pub frame_same : SameFrame m n (Frame memory out) (Frame memory out')
   frame_same = record {
     values = frame_sounds m memory out dm ∙ heard_paired kept memory sm sn R.into R.one_to_one R.stays_active paired ∙ sym (frame_sounds n memory out' dn);
-    twelve = rw (frame_sounds m memory out dm) (heard-length (played memory m) (sound_played memory sm).size);
+    twelve = rw (frame_sounds m memory out dm) (heard_length (played memory m) (sound_played memory sm).size);
     missing = frame_misses m memory out dm ∙ missed_paired kept memory sm sn R.into R.one_to_one R.stays_active paired ∙ sym (frame_misses n memory out' dn);
   }
 

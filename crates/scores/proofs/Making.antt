@@ -17,7 +17,7 @@ use Rattle.machine.specs.Words.{OUTPUT_VALUES}
 use Rattle.frame.specs.Frame.{played, frame_answer, frame_output}
 use Rattle.frame.proofs.Answered.{done_frame}
 use Rattle.frame.proofs.Keeps.{sound_played}
-use Rattle.frame.proofs.Leaves.{heard-length}
+use Rattle.frame.proofs.Leaves.{heard_length}
 use Rattle.calls.specs.Calls.{Call, Frame, answer_to, output_from}
 use Rattle.calls.specs.Asks.{call_of, output_of, Performs}
 use Rattle.calls.specs.declared.Ask.{Ask}
@@ -52,7 +52,7 @@ frame_long m memory =
     split _ (is_done (frame_answer m memory silence))
     (λ t.
     let d = is_done_lem (frame_answer m memory silence) t in
-    rw t (heard-length (played memory m) (sound_played memory (done_frame m memory silence d).machine).size))
+    rw t (heard_length (played memory m) (sound_played memory (done_frame m memory silence d).machine).size))
     (λ f. rw f refl)
 
 abbrev pub Long : Call → Type 0

@@ -1,7 +1,7 @@
 -- Twenty words and the voice that they are, and the stores of the code's functions by the voice that they leave.
 -- In order: twenty words are the words of their voice (`words_voice`); the address step's stores (`accum_stored`, `place_stored`); the
--- ramps' (`levels_stored`, `levels_left`); the filters' (`back-…`, `outputs-stored`); the parts of a turn one after another (`filters-…`,
--- `step-…`, `parts_run`, `parts_stand`). What a turn leaves of the registers themselves is Keeps. Assumes nothing.
+-- ramps' (`levels_stored`, `levels_left`); the filters' (`back_…`, `outputs_stored`); the parts of a turn one after another (`filters_…`,
+-- `step_…`, `parts_run`, `parts_stand`). What a turn leaves of the registers themselves is Keeps. Assumes nothing.
 use mathlib.Core.Path.{◌≡◌, refl, sym, ap, subst, ◌∙◌}
 use mathlib.Core.List.{List}
 use Prim.Native.Nat.{ℕ}
@@ -88,10 +88,10 @@ module _ (w : List ℕ) (h : length w ≡ 20) where
   unfolding moved_back words_of last_outputs
   back_passing x = as_voice w h (λ l. passing x (voice_of (moved_back l)) ≡ passing x (voice_of w)) refl
 
-  pub outputs-stored : (p : Poles)
+  pub outputs_stored : (p : Poles)
       → set (set (set (set (moved_back w) 19 (word 18 p.o1)) 17 (word 18 p.o2)) 15 (word 18 p.o3)) 14 (word 18 p.o4) ≡ words_of (with_outputs (voice_of w) p)
   unfolding moved_back words_of with_outputs
-  outputs-stored p =
+  outputs_stored p =
       as_voice w h
       (λ l. set (set (set (set (moved_back l) 19 (word 18 p.o1)) 17 (word 18 p.o2)) 15 (word 18 p.o3)) 14 (word 18 p.o4) ≡ words_of (with_outputs (voice_of w) p))
       refl

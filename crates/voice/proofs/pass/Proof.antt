@@ -12,7 +12,7 @@ use Rattle.filter.specs.declared.Poles.{Poles}
 use Rattle.voice.specs.Voice.{voice_of, words_of}
 use Rattle.voice.specs.Turn.{passing, with_outputs}
 use Rattle.voice.specs.Takes.{after_filters}
-use Rattle.voice.proofs.Words.{moved_back, back_length, back_ranges, back_control, back_passing, outputs-stored}
+use Rattle.voice.proofs.Words.{moved_back, back_length, back_ranges, back_control, back_passing, outputs_stored}
 use Rattle.voice.proofs.pass.Statement.{statement}
 use Rattle.voice.proofs.pass.Tie as tie
 
@@ -49,7 +49,7 @@ returns c =
             c.word_of-3.ensures.0 ∙ ap (word 18) (held w32 tt b.o3).is,
             c.word_of-2.ensures.0 ∙ ap (word 18) (held w32 tt b.o2).is,
             c.word_of.ensures.0 ∙ ap (word 18) (held w32 tt b.o1).is,
-          ) (outputs-stored w s.requires.0 p ∙ ap (λ (q : Poles). words_of (with_outputs v q)) e);
+          ) (outputs_stored w s.requires.0 p ∙ ap (λ (q : Poles). words_of (with_outputs v q)) e);
       output = o4 ∙ ap (λ (q : Poles). q.o4) e;
       bits = bits-held w32 tt b.o4;
     }

@@ -10,14 +10,14 @@ use Rattle.wave_in.proofs.settle.Tie as tie
 returns_2 : tie.Need-returns-in_default
 returns_2 c =
     let p = c.before in
-    broken _ _ _ p.before.if-room-gt-MOST_MEMORY_WORDS.false (was_broken _ p.parse.result p.parse.ensures c.in_default.is)
+    broken _ _ _ (omega arith) (was_broken _ p.parse.result p.parse.ensures c.in_default.is)
 
 returns_3 : tie.Need-returns-then-is_miscounted
 returns_3 c =
     let d = c.before.before in
     let p = d.before in
     let w = was_found p.before.before.before.args.file.now p.parse.result p.parse.ensures d.in-Unbroken.found d.in-Unbroken.is in
-    miscounted_so _ _ _ p.before.if-room-gt-MOST_MEMORY_WORDS.false w.0 (count_is _ _ _ w.1 c.before.is_miscounted.ensures ∙ c.if-is_miscounted.true)
+    miscounted_so _ _ _ (omega arith) w.0 (count_is _ _ _ w.1 c.before.is_miscounted.ensures ∙ c.if-is_miscounted.true)
 
 ready : (c : tie.Else-is_miscounted)
     → Ready c.before.before.before.before.before.before.args.file.now c.before.before.before.before.before.before.args.room c.before.before.in-Unbroken.found
