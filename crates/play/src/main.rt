@@ -15,7 +15,7 @@ use std::io::{Eprint, Print, Write};
 // One byte more than a score may have is read, so that a longer one is seen. Nothing is written before the whole score is known to be good.
 fn main(rt: HostRuntime) -> io::Result<()> {
     let mut input = [0u8; 65537];
-    let n = reading::read_full(&mut rt.reader(), &mut input)?;
+    let n = streams::read_full(&mut rt.reader(), &mut input)?;
     let mut full = [0u8; scores::MOST_FULL_BYTES];
     let verdict = scores::judge(&input[..n], &mut full);
     match verdict {
@@ -92,7 +92,7 @@ fn render(
     let mut played = 0;
     let mut refused = 0;
     let mut loud = 0;
-    say_progress(rt, 0, frames)?;
+    say_progress(rt, 0, frames);
     while command < commands.len() / repeats::COMMAND_BYTES {
         let p = scores::play(m, memory, commands, command, made, &mut part);
         loud = put(rt, &part, p.frames, loud)?;
@@ -100,9 +100,10 @@ fn render(
         refused = std::num::wrapping_add_u64(refused, p.refused as u64);
         command = p.command;
         made = p.made;
-        say_progress(rt, played, frames)?;
+        say_progress(rt, played, frames);
     }
-    say_end(rt, loud, refused)
+    say_end(rt, loud, refused);
+    Ok(())
 }
 
 // Room for the sound of a part. A function of its own, so that the proof of `render` has the length and not the list.
@@ -121,12 +122,13 @@ fn put(rt: &impl Print, part: &[u8], frames: usize, loud: u32) -> io::Result<u32
     Ok(scores::loudest(&part[..bytes], loud))
 }
 
-fn say_progress(rt: &impl Eprint, played: u64, frames: u64) -> io::Result<()> {
+// How far it is, and how it ended, on standard error. Where that takes no line the sound goes on.
+fn say_progress(rt: &impl Eprint, played: u64, frames: u64) {
     let now = played / wave_head::RATE as u64;
     let all = frames / wave_head::RATE as u64;
-    eprint!(rt; "\rplay: {now} of {all} seconds")
+    eprint!(rt; "\rplay: {now} of {all} seconds").ok();
 }
 
-fn say_end(rt: &impl Eprint, loud: u32, refused: u64) -> io::Result<()> {
-    eprintln!(rt; "\nplay: loudest {loud} of 32768, {refused} calls refused")
+fn say_end(rt: &impl Eprint, loud: u32, refused: u64) {
+    eprintln!(rt; "\nplay: loudest {loud} of 32768, {refused} calls refused").ok();
 }

@@ -12,16 +12,14 @@ ghost use Rattle.scores.specs.Score.{MOST_BYTES, MEMORY_BYTES};
 use calls::{Ask, Reply};
 use scores::Command;
 use std::io;
-use std::io::{BufWriter, Write};
+use std::io::Write;
 
 fn main(rt: HostRuntime) -> io::Result<()> {
     let mut input = [0u8; scores::MOST_BYTES];
-    let n = reading::read_full(&mut rt.reader(), &mut input)?;
+    let n = streams::read_full(&mut rt.reader(), &mut input)?;
     if scores::MEMORY_BYTES <= n {
         let mut full = [0u8; scores::MOST_FULL_BYTES];
-        let mut lines = BufWriter::new(rt.alloc(), io::writer(&rt))?;
-        play(&mut lines, &input[..n], &mut full)?;
-        lines.flush()?;
+        play(&mut io::writer(&rt), &input[..n], &mut full)?;
     }
     Ok(())
 }

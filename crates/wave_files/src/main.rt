@@ -4,10 +4,11 @@
 // their words.
 #![tactic(auto)]
 
-ghost use Rattle.std.specs.Prelude.{◌+◌, ◌≤◌, length};
+ghost use Rattle.std.specs.Prelude.{◌+◌, ◌≤◌, length, IfOk};
 
+use std::env::{Env, FillError};
 use std::rt::Files;
-use std::{env, fs, io};
+use std::{fs, io, str};
 use wave_in::Imported;
 
 // The named word, and what every word of the memory holds before.
@@ -15,26 +16,61 @@ const WORD: usize = 16;
 
 const FILLER: u16 = 42405;
 
+// An argument that is not text, a file that cannot be opened and one that cannot be read to its end
+// give a line on standard error in place of their own.
 fn main(rt: HostRuntime) -> io::Result<()> {
-    for name in env::args(&rt)?.skip(1) {
-        take(&rt, name.as_str())?;
+    let mut name = [0u8; 4096];
+    for i in 1..usize::MAX {
+        match rt.arg(i, &mut name) {
+            Ok(n) => take_argument(&rt, &name[..n])?,
+            Err(FillError::TooLong) => complain(
+                &rt,
+                "the name of a file has more than 4,096 bytes",
+            ),
+            Err(FillError::NotPresent) => break,
+        }
     }
     Ok(())
 }
 
-// The file of a name. One byte more than an import takes is read, so that a longer file is seen. A file that cannot be opened gives a line on
-// standard error in place of its own.
+fn take_argument(rt: &(impl Files + Print + Eprint), name: &[u8]) -> io::Result<()> {
+    match str::from_utf8(name) {
+        Ok(name) => take(rt, name),
+        Err(_) => {
+            complain(rt, "the name of a file is not text");
+            Ok(())
+        }
+    }
+}
+
+// The file of a name.
 fn take(rt: &(impl Files + Print + Eprint), name: &str) -> io::Result<()> {
-    let mut source = match fs::open(rt, name) {
-        Ok(source) => source,
-        Err(e) => return eprintln!(rt; "{name}: {e}"),
-    };
     let mut file = [0u8; 65537];
-    let bytes = reading::read_full(&mut source, &mut file)?;
-    let mut memory = [FILLER; 512];
-    let got = wave_in::import(&file[..bytes], &mut memory, WORD);
-    print!(rt; "{name}")?;
-    say(rt, got, &memory)
+    match read(rt, name, &mut file) {
+        Ok(bytes) => {
+            let mut memory = [FILLER; 512];
+            let got = wave_in::import(&file[..bytes], &mut memory, WORD);
+            print!(rt; "{name}")?;
+            say(rt, got, &memory)
+        }
+        Err(e) => {
+            eprintln!(rt; "{name}: {e}").ok();
+            Ok(())
+        }
+    }
+}
+
+// The bytes of a file. The buffer has one more than an import takes, so that a longer file is seen.
+fn read(rt: &impl Files, name: &str, file: &mut [u8]) -> io::Result<usize>
+    ensures { IfOk result (λ n. n ≤ length file.new) }
+{
+    let mut source = fs::open(rt, name)?;
+    streams::read_full(&mut source, file)
+}
+
+// Where standard error takes no line the run goes on.
+fn complain(rt: &impl Eprint, text: &str) {
+    eprintln!(rt; "wave_files: {text}").ok();
 }
 
 fn say(rt: &impl Print, got: Imported, memory: &[u16]) -> io::Result<()> {
