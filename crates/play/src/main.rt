@@ -1,6 +1,7 @@
 // Plays a score from standard input and writes what is heard of it as a WAVE file: stereo, 16 bits, 31,250 samples a second.
 // On standard error it says how far it is, and at the end the loudest sample and how many calls were refused. A score that is not good gives a line
-// there and nothing else. What a score is, and what is heard of it, is the crate `scores`.
+// there and nothing else. What a score is, and what is heard of it, is the crate `scores`. A read or a write that fails ends the program with its
+// error; what was written until then stands.
 #![tactic(auto)]
 
 ghost use Rattle.std.specs.Prelude.{◌≡◌, ◌*◌, ◌≤◌, length, take};
@@ -122,13 +123,14 @@ fn put(rt: &impl Print, part: &[u8], frames: usize, loud: u32) -> io::Result<u32
     Ok(scores::loudest(&part[..bytes], loud))
 }
 
-// How far it is, and how it ended, on standard error. Where that takes no line the sound goes on.
+// How far it is. Where standard error takes no line the sound goes on.
 fn say_progress(rt: &impl Eprint, played: u64, frames: u64) {
     let now = played / wave_head::RATE as u64;
     let all = frames / wave_head::RATE as u64;
     eprint!(rt; "\rplay: {now} of {all} seconds").ok();
 }
 
+// The loudest sample, and how many calls were refused, likewise.
 fn say_end(rt: &impl Eprint, loud: u32, refused: u64) {
     eprintln!(rt; "\nplay: loudest {loud} of 32768, {refused} calls refused").ok();
 }

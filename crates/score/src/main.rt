@@ -3,7 +3,7 @@
 // Each call gives one line: the answer's number, for a read also the byte, for the question which voices wait also their mask, for a frame also how
 // many words were missing and the twelve values. A command, in full, that makes no call gives the line "no call". A last command that is cut short is
 // left out, and so is all that stands after 65,536 bytes; a score whose sample memory is cut short, or that has more than 65,536 commands in full,
-// gives no line.
+// gives no line. A read or a write that fails ends the program with its error; what was written until then stands.
 #![tactic(auto)]
 
 ghost use Rattle.std.specs.Prelude.{◌≡◌, ◌≤◌, nat_abs, length};
