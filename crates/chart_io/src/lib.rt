@@ -4,7 +4,7 @@
 
 ghost use Rattle.std.specs.Prelude.{◌≡◌, length, IfSome, OnOk, OnErr};
 ghost use Rattle.std.specs.Io.KnownBytes.{Appends};
-ghost use Rattle.streams.specs.Parts.{AppendsPart};
+ghost use Rattle.streams.specs.Parts.{AppendsPart, ConsumesSome};
 ghost use Rattle.chart.specs.Chart.{chart_of};
 
 use chart::Charted;
@@ -19,8 +19,9 @@ pub fn run(rt: &(impl Input + Print)) -> io::Result<()> {
 }
 
 // The chart of all that the reader has, and nothing else, to the writer; where a read or a write
-// fails, a part of it.
+// fails, a part of it. What was read is gone from the reader, also where that fails.
 pub fn write_chart<R: Read, W: Write>(reader: &mut R, writer: &mut W) -> io::Result<()>
+    ensures taken { ConsumesSome (R.remaining reader.old) (R.remaining reader.new) }
     ensures ok { OnOk result (IfSome (R.remaining reader.old) (λ input.
         Appends (W.contents writer.old) (W.contents writer.new) (chart_of input))) }
     ensures err { OnErr result (IfSome (R.remaining reader.old) (λ input.

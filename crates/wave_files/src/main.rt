@@ -4,7 +4,7 @@
 // their words. A write that fails ends the program with its error; what was written until then stands.
 #![tactic(auto)]
 
-ghost use Rattle.std.specs.Prelude.{◌+◌, ◌≤◌, length, IfOk};
+ghost use Rattle.std.specs.Prelude.{◌+◌, ◌≤◌, length};
 
 use std::env::{Env, FillError};
 use std::rt::Files;
@@ -16,8 +16,8 @@ const WORD: usize = 16;
 
 const FILLER: u16 = 42405;
 
-// An argument that is not text, a file that cannot be opened and one that cannot be read to its end
-// give a line on standard error in place of their own.
+// An argument that is not text, and a file that cannot be opened, give a line on standard error in
+// place of their own.
 fn main(rt: HostRuntime) -> io::Result<()> {
     let mut name = [0u8; 4096];
     for i in 1..usize::MAX {
@@ -43,29 +43,22 @@ fn take_argument(rt: &(impl Files + Print + Eprint), name: &[u8]) -> io::Result<
     }
 }
 
-// The file of a name.
+// The file of a name. One byte more than an import takes is read, so that a longer file is seen. A
+// file that opens and cannot be read, such as a folder, is imported as one of no bytes.
 fn take(rt: &(impl Files + Print + Eprint), name: &str) -> io::Result<()> {
-    let mut file = [0u8; 65537];
-    match read(rt, name, &mut file) {
-        Ok(bytes) => {
-            let mut memory = [FILLER; 512];
-            let got = wave_in::import(&file[..bytes], &mut memory, WORD);
-            print!(rt; "{name}")?;
-            say(rt, got, &memory)
-        }
+    let mut source = match fs::open(rt, name) {
+        Ok(source) => source,
         Err(e) => {
             eprintln!(rt; "{name}: {e}").ok();
-            Ok(())
+            return Ok(());
         }
-    }
-}
-
-// The bytes of a file. The buffer has one more than an import takes, so that a longer file is seen.
-fn read(rt: &impl Files, name: &str, file: &mut [u8]) -> io::Result<usize>
-    ensures { IfOk result (λ n. n ≤ length file.new) }
-{
-    let mut source = fs::open(rt, name)?;
-    streams::read_full(&mut source, file)
+    };
+    let mut file = [0u8; 65537];
+    let bytes = streams::read_full(&mut source, &mut file).unwrap_or(0);
+    let mut memory = [FILLER; 512];
+    let got = wave_in::import(&file[..bytes], &mut memory, WORD);
+    print!(rt; "{name}")?;
+    say(rt, got, &memory)
 }
 
 // Where standard error takes no line the run goes on.

@@ -15,11 +15,16 @@ done c = sym c.before.check-a.ensures ∙ c.in-Done.is
 returns : tie.Need-returns-in_default
 returns c = let r = c.before.check-a in waiting_refused _ r.result r.ensures (is_refusal r.result c.in_default.in_default-own.keys2)
 
-shared_slice_read_t5 : tie.Need-bounds-m-663
-shared_slice_read_t5 c = omega (arith, (not_refused _ (done c.before)).size)
-
 returns_2 : tie.Need-returns
 returns_2 c = waiting_done _ (sym (done c.before))
 
+-- no goal is named after the word that is read, so that an edit of it is refused for its fact
 pub waiting_spec : {M : Type 1} → statement M
-waiting_spec = tie.close (tie.spec (λ c κs. search rules) (λ c. search rules) returns shared_slice_read_t5 returns_2)
+waiting_spec =
+    tie.close
+    (tie.spec
+    (λ c κs. search rules)
+    (λ c. search rules)
+    returns
+    (λ c. omega (arith, (not_refused _ (done c.before)).size))
+    returns_2)

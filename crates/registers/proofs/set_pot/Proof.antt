@@ -22,16 +22,13 @@ returns c =
     let n = is_refusal r.result c.in_default.in_default-own.keys2 in
     pot_refused a.m.now a.value r.result (asked_bad a.m.now 1023 a.value Pot r.result r.ensures n) n
 
-slice_write_m : tie.Need-bounds-m-642
-slice_write_m c = omega (arith, (fine c.before).size)
-
 returns_3 : tie.Need-returns
 unfolding pot_answer
 returns_3 c =
     let a = c.args in
     pot_done a.m.now a.value (asked_done a.m.now 1023 a.value Pot (fine c.before) (omega arith))
 
--- the test of the value is not named, so that an edit of it is refused for its fact
+-- the test of the value and the word that is stored are not named, so that an edit of either is refused for its fact
 pub set_pot_spec : {M : Type 1} → statement M
 unfolding pot_answer
 set_pot_spec =
@@ -43,6 +40,6 @@ set_pot_spec =
     returns
     (λ c. search rules)
     (λ c. pot_refused c.args.m.now c.args.value Pot (asked_far c.args.m.now 1023 c.args.value Pot (fine c.before) (omega arith)) refl)
-    slice_write_m
+    (λ c. omega (arith, (fine c.before).size))
     (λ c. search rules)
     returns_3)
