@@ -6,12 +6,16 @@
 #   run            the program
 #   put FILE       a file to standard output
 #   has_room       fails where no file can be written in the folder
-# The program is asked for by `rt run` on no input, which proves and builds it anew where a source has changed.
+# The program is asked for by `rt run` on no input, which proves and builds it anew where a source has changed. It ends with a status that is not 0
+# where it cannot read or write, and but for standard error it does both in the folder.
 
 fail() {
     echo "$name: $*" >&2
     exit 1
 }
+
+# Where there is no standard error, nothing is said.
+(: >&2) || exec 2> /dev/null
 
 here=$(CDPATH='' cd -- "$(dirname "$0")/.." && pwd -P)
 folder=$here/crates/$crate
@@ -43,12 +47,24 @@ take() {
 
 build() {
     command -v rt > /dev/null || fail "the kit's command rt is not on the path"
-    [ -w "$folder" ] && { [ ! -e "$folder/out" ] || [ -w "$folder/out" ]; } || fail "$folder/out cannot be written, so it is not known whether the program is new"
     [ -x "$program" ] || echo "$name: the program is proved and built first" >&2
     (cd "$folder" && rt run < /dev/null > "$work/log" 2>&1) || {
+        has_room
         cat "$work/log" >&2
+        can_write
         fail "the program could not be built"
     }
+}
+
+# What is made of each crate is kept in its folder out.
+can_write() {
+    for each in "$here"/crates/*; do
+        if [ -e "$each/out" ]; then
+            [ -w "$each/out" ]
+        else
+            [ -w "$each" ]
+        fi || fail "$each/out cannot be written, so it is not known whether the program is new"
+    done
 }
 
 run() {
