@@ -1,7 +1,7 @@
 // Plays a score from standard input and writes what is heard of it as a WAVE file: stereo, 16 bits, 31,250 samples a second.
 // On standard error it says how far it is, and at the end the loudest sample and how many calls were refused. A score that is not good gives a line
-// there and nothing else. What a score is, and what is heard of it, is the crate `scores`. A read or a write that fails ends the program with its
-// error; what was written until then stands.
+// there and nothing else. What a score is, and what is heard of it, is the crate `scores`. A failed read or write of
+// standard input or output ends the program with its error; what was written until then stands.
 #![tactic(auto)]
 
 ghost use Rattle.std.specs.Prelude.{◌≡◌, ◌*◌, ◌≤◌, length, take};

@@ -12,20 +12,19 @@ ghost use Rattle.scores.specs.Score.{MOST_BYTES, MEMORY_BYTES};
 use calls::{Ask, Reply};
 use scores::Command;
 use std::io;
-use std::io::Write;
 
 fn main(rt: HostRuntime) -> io::Result<()> {
     let mut input = [0u8; scores::MOST_BYTES];
     let n = streams::read_full(&mut rt.reader(), &mut input)?;
     if scores::MEMORY_BYTES <= n {
         let mut full = [0u8; scores::MOST_FULL_BYTES];
-        play(&mut io::writer(&rt), &input[..n], &mut full)?;
+        play(&rt, &input[..n], &mut full)?;
     }
     Ok(())
 }
 
 // Its commands in full, on a record that is not valid at first.
-fn play<W: Write>(lines: &mut W, score: &[u8], full: &mut [u8]) -> io::Result<()>
+fn play(rt: &impl Print, score: &[u8], full: &mut [u8]) -> io::Result<()>
     requires { (MEMORY_BYTES ≤ length score.now) × (length score.now ≤ MOST_BYTES) }
 {
     if full.len() < repeats::full_bytes(&score[scores::MEMORY_BYTES..]) {
@@ -35,72 +34,62 @@ fn play<W: Write>(lines: &mut W, score: &[u8], full: &mut [u8]) -> io::Result<()
     let mut memory = [0u16; scores::MEMORY_WORDS];
     scores::fill(&mut memory, score);
     let mut m = [scores::FIRST_WORD; machine::RECORD_WORDS];
-    obey_all(lines, &mut m, &memory, &full[..n])
+    obey_all(rt, &mut m, &memory, &full[..n])
 }
 
 // The commands in turn.
-fn obey_all<W: Write>(
-    lines: &mut W,
-    m: &mut [u32],
-    memory: &[u16],
-    commands: &[u8],
-) -> io::Result<()> {
+fn obey_all(rt: &impl Print, m: &mut [u32], memory: &[u16], commands: &[u8]) -> io::Result<()> {
     for k in 0..commands.len() / repeats::COMMAND_BYTES {
-        obey(
-            lines,
-            m,
-            memory,
-            scores::command_at(commands, repeats::COMMAND_BYTES * k),
-        )?;
+        let command = scores::command_at(commands, repeats::COMMAND_BYTES * k);
+        obey(rt, m, memory, command)?;
     }
     Ok(())
 }
 
 // A command's calls.
-fn obey<W: Write>(lines: &mut W, m: &mut [u32], memory: &[u16], c: Command) -> io::Result<()> {
-    let ask = c.ask;
+fn obey(rt: &impl Print, m: &mut [u32], memory: &[u16], c: Command) -> io::Result<()> {
     for _ in 0..c.times {
         let mut out = [0i32; machine::OUTPUT_VALUES];
-        let reply = calls::perform(m, ask, memory, &mut out);
-        say(lines, ask, reply, &out)?;
+        let reply = calls::perform(m, c.ask, memory, &mut out);
+        say(rt, c.ask, reply, &out)?;
     }
     if c.times == 0 {
-        writeln!(lines, "no call")?;
+        println!(rt; "no call")?;
     }
     Ok(())
 }
 
 // The line of a call that was made.
-fn say<W: Write>(lines: &mut W, ask: Ask, reply: Reply, out: &[i32]) -> io::Result<()> {
+fn say(rt: &impl Print, ask: Ask, reply: Reply, out: &[i32]) -> io::Result<()> {
     let number = answer::number(reply.answer);
     let given = reply.given;
-    write!(lines, "{number}")?;
+    print!(rt; "{number}")?;
     match ask {
-        Ask::Read(_) => write!(lines, " {given}")?,
-        Ask::Waiting => write!(lines, " {given}")?,
+        Ask::Read(_) => print!(rt; " {given}")?,
+        Ask::Waiting => print!(rt; " {given}")?,
         Ask::Frame => {
-            write!(lines, " {given}")?;
-            say_values(lines, out)?;
+            print!(rt; " {given}")?;
+            say_values(rt, out)?;
         }
         _ => {}
     }
-    writeln!(lines)
+    println!(rt; "")
 }
 
-fn say_values<W: Write>(lines: &mut W, out: &[i32]) -> io::Result<()> {
+fn say_values(rt: &impl Print, out: &[i32]) -> io::Result<()> {
     for i in 0..out.len() {
-        say_value(lines, out[i])?;
+        say_value(rt, out[i])?;
     }
     Ok(())
 }
 
 // A space, and a value of the output.
-fn say_value<W: Write>(lines: &mut W, z: i32) -> io::Result<()> {
+fn say_value(rt: &impl Print, z: i32) -> io::Result<()> {
     let digits = magnitude(z);
     if z < 0 {
-        return write!(lines, " -{digits}");
+        return print!(rt; " -{digits}");
     }
-    write!(lines, " {digits}")
+    print!(rt; " {digits}")
 }
 
 // What a number's digits say. The least number of 32 bits has none above it to match, so the sign is turned in 64.

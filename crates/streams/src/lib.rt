@@ -47,3 +47,6 @@ pub fn write_full<W: Write>(writer: &mut W, bytes: &[u8]) -> io::Result<()>
     }
     Ok(())
 }
+
+#[cfg(test)]
+mod tests;

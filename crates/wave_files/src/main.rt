@@ -1,7 +1,7 @@
 // Imports each file that its arguments name, and prints what comes of it.
 // Every import is lent a sample memory of 512 words that all hold the same number, and puts its samples from word 16 on. It gives a line: the file's
 // name, all that is answered, and how many words outside the samples' part are not as they were; and, where there are samples, a second line with
-// their words. A write that fails ends the program with its error; what was written until then stands.
+// their words. A read or a write that fails ends the program with its error; what was written until then stands.
 #![tactic(auto)]
 
 ghost use Rattle.std.specs.Prelude.{◌+◌, ◌≤◌, length};
@@ -16,8 +16,8 @@ const WORD: usize = 16;
 
 const FILLER: u16 = 42405;
 
-// An argument that is not text, and a file that cannot be opened, give a line on standard error in
-// place of their own.
+// A file that cannot be opened gives a line on standard error in place of its own, and so does a
+// name that is not text or is too long.
 fn main(rt: HostRuntime) -> io::Result<()> {
     let mut name = [0u8; 4096];
     for i in 1..usize::MAX {
@@ -43,8 +43,7 @@ fn take_argument(rt: &(impl Files + Print + Eprint), name: &[u8]) -> io::Result<
     }
 }
 
-// The file of a name. One byte more than an import takes is read, so that a longer file is seen. A
-// file that opens and cannot be read, such as a folder, is imported as one of no bytes.
+// The file of a name. One byte more than an import takes is read, so that a longer file is seen.
 fn take(rt: &(impl Files + Print + Eprint), name: &str) -> io::Result<()> {
     let mut source = match fs::open(rt, name) {
         Ok(source) => source,
@@ -54,7 +53,7 @@ fn take(rt: &(impl Files + Print + Eprint), name: &str) -> io::Result<()> {
         }
     };
     let mut file = [0u8; 65537];
-    let bytes = streams::read_full(&mut source, &mut file).unwrap_or(0);
+    let bytes = streams::read_full(&mut source, &mut file)?;
     let mut memory = [FILLER; 512];
     let got = wave_in::import(&file[..bytes], &mut memory, WORD);
     print!(rt; "{name}")?;
