@@ -47,16 +47,16 @@ take() {
 
 build() {
     command -v rt > /dev/null || fail "the kit's command rt is not on the path"
+    can_write
     [ -x "$program" ] || echo "$name: the program is proved and built first" >&2
     (cd "$folder" && rt run < /dev/null > "$work/log" 2>&1) || {
         has_room
         cat "$work/log" >&2
-        can_write
         fail "the program could not be built"
     }
 }
 
-# What is made of each crate is kept in its folder out.
+# What is made of each crate is kept in its folder out. Fails where one cannot be written.
 can_write() {
     for each in "$here"/crates/*; do
         if [ -e "$each/out" ]; then
