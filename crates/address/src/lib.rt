@@ -1,5 +1,6 @@
-// The address step of a running voice: ACCUM moves by FC, and a loop point that it passes makes a loop event.
-// Targets are `i64`, so that a step past either end of the 32 bits is seen before it wraps.
+//! The address step of a running voice: ACCUM moves by FC, and a loop point that it passes makes a
+//! loop event. Targets are `i64`, so that a step past either end of the 32 bits is seen before it
+//! wraps.
 #![tactic(auto)]
 
 ghost use Rattle.std.specs.Prelude.{◌≡◌, ◌<◌, ◌≤◌};
@@ -8,14 +9,14 @@ ghost use Rattle.address.specs.Address.{raised, stepped};
 ghost use Rattle.address.specs.Address.{forward as Address-as-forward, reverse as Address-as-reverse};
 ghost use Rattle.address.specs.Event.{event as Event-as-event};
 
-// What the step changes.
-#[derive(Clone, Copy)]
+/// What the step changes.
+#[derive(Clone, Copy, Debug, PartialEq, Eq)]
 pub struct Place {
     pub accum: u32,
     pub cr: u32,
 }
 
-// ACCUM and the control register after the step.
+/// ACCUM and the control register after the step.
 pub fn step(cr: u32, fc: u32, start: u32, end: u32, accum: u32) -> Place
     requires { cr < 65536 }
     ensures { (result ≡ stepped cr fc start end accum) × (result.cr < 65536) }
@@ -69,7 +70,8 @@ fn reverse(cr: u32, fc: u32, start: u32, end: u32, accum: u32) -> Place
     }
 }
 
-// A loop event, by the loop mode BLE, LPE. Both directions share it: they differ in where the three ways lead, and in the direction after.
+// A loop event, by the loop mode BLE, LPE. Both directions share it: they differ in where the three
+// ways lead, and in the direction after.
 fn event(cr: u32, passed: u32, across: i64, back: i64, direction: u32) -> Place
     requires cr_bound { cr < 65536 }
     requires within { Within 17179869184 across }

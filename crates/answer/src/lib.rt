@@ -1,55 +1,60 @@
-// What a call answers: that it is done, or why it is refused.
+//! What a call answers: that it is done, with what it gives, or why it is refused.
 #![tactic(auto)]
 
 ghost use Rattle.std.specs.Prelude.{◌≡◌};
-ghost use Rattle.answer.specs.Answer.{answer_number};
+ghost use Rattle.answer.specs.Answer.{answer_number, answer_of};
 
-#[derive(Clone, Copy)]
-pub enum Answer {
-    Done,
-    // The record has not as many words as a record has.
+use thiserror::Error;
+
+/// Why a call is refused.
+#[derive(Clone, Copy, Debug, PartialEq, Eq, Hash, Error)]
+pub enum Refusal {
+    #[error("the record has not as many words as a record has")]
     RecordLength,
-    // A word of the record has a bit or a value that it may not have.
+    #[error("a word of the record has a bit or a value that it may not have")]
     RecordInvalid,
-    // A byte address above 63.
+    #[error("the byte address is above 63")]
     Address,
-    // A pot value above 1023.
+    #[error("the pot value is above 1023")]
     Pot,
-    // More sample memory than four banks.
+    #[error("there is more sample memory than four banks")]
     MemoryLength,
-    // An output that is not twelve values.
+    #[error("the output is not twelve values")]
     OutputLength,
-    // Fewer than five active voices.
+    #[error("fewer than five voices are active")]
     TooFewVoices,
-    // A file that is too long or no RIFF/WAVE, or in which something runs past what it is in.
+    #[error("the file is too long or no RIFF/WAVE, or something runs past what it is in")]
     FileBroken,
-    // No format chunk or no data chunk, or two of one.
+    #[error("there is no format chunk or no data chunk, or two of one")]
     ChunkCount,
-    // Samples that are not mono 16-bit PCM, or an odd number of bytes of them.
+    #[error("the samples are not mono 16-bit PCM, or an odd number of bytes")]
     SampleFormat,
-    // A loop with a point past the last sample, with its last before its start, or of no known type.
+    /// A loop with a point past the last sample, with its last before its start, or of no known
+    /// type.
+    #[error("the loop is not within the samples, ends before it starts, or is of no known type")]
     LoopInvalid,
-    // Memory or a bank that ends before the samples do, or an END that its register does not hold.
+    /// Memory or a bank that ends before the samples do, or an END that its register does not hold.
+    #[error("the samples do not fit in the memory or the bank, or END not in its register")]
     NoPlace,
 }
 
-// The answer's number, for hosts.
-pub fn number(a: Answer) -> u32
-    ensures { result ≡ answer_number a }
+/// The number of what a call answers, for hosts: 0 where it is done, whatever it gives.
+pub fn number<T: Drop>(answer: Result<T, Refusal>) -> u32
+    ensures { result ≡ answer_number (answer_of answer) }
 {
-    match a {
-        Answer::Done => 0,
-        Answer::RecordLength => 1,
-        Answer::RecordInvalid => 2,
-        Answer::Address => 3,
-        Answer::Pot => 4,
-        Answer::MemoryLength => 5,
-        Answer::OutputLength => 6,
-        Answer::TooFewVoices => 7,
-        Answer::FileBroken => 20,
-        Answer::ChunkCount => 21,
-        Answer::SampleFormat => 22,
-        Answer::LoopInvalid => 23,
-        Answer::NoPlace => 24,
+    match answer {
+        Ok(_) => 0,
+        Err(Refusal::RecordLength) => 1,
+        Err(Refusal::RecordInvalid) => 2,
+        Err(Refusal::Address) => 3,
+        Err(Refusal::Pot) => 4,
+        Err(Refusal::MemoryLength) => 5,
+        Err(Refusal::OutputLength) => 6,
+        Err(Refusal::TooFewVoices) => 7,
+        Err(Refusal::FileBroken) => 20,
+        Err(Refusal::ChunkCount) => 21,
+        Err(Refusal::SampleFormat) => 22,
+        Err(Refusal::LoopInvalid) => 23,
+        Err(Refusal::NoPlace) => 24,
     }
 }

@@ -11,9 +11,7 @@ use Prim.Native.Nat.{ℕ, ◌≤◌, ◌<◌}
 use lib.IntN.{ℤ}
 use lib.ListN.{get_or}
 use Rattle.numbers.proofs.Tests.{either}
-use Rattle.answer.specs.Answer.{is_done}
-use Rattle.answer.specs.declared.Answer.{Answer}
-use Rattle.answer.specs.declared.Answer.TheVariants.{Done}
+use Rattle.answer.specs.Answer.{Answer, Done, is_done}
 use Rattle.machine.specs.Words.{PAGE, IRQV, SLOW, SUMS}
 use Rattle.machine.proofs.Valid.{Sound}
 use Rattle.frame.specs.Missing.{missed_in}

@@ -1,6 +1,6 @@
 -- A call as a host hands it over, with what it lends beside it. Assumes nothing.
+use Rattle.answer.specs.Answer.{Answer}
 use Rattle.std.specs.Prelude.{ℕ, ◌≡◌, List, ℤ}
-use Rattle.answer.specs.declared.Answer.{Answer}
 use Rattle.calls.specs.Calls.{Call, Reset, Write, Read, SetPot, Waiting, Frame, answer_to, after, given_by, output_from}
 use Rattle.calls.specs.declared.Ask.{Ask}
 

@@ -1,8 +1,8 @@
 -- A call on a record, and a run of calls one after the other: what each answers, gives and puts out, and the record that it leaves. Every theorem
 -- about more than one call speaks of these.
 -- In order: a call; what it answers; what it leaves; what it gives beside its answer; what it puts out; a run. Assumes nothing.
+use Rattle.answer.specs.Answer.{Answer}
 use Rattle.std.specs.Prelude.{ℕ, List, [], ◌∷◌, ◌++◌, ℤ}
-use Rattle.answer.specs.declared.Answer.{Answer}
 use Rattle.machine.specs.Reset.{reset_answer, reset_record}
 use Rattle.machine.specs.Waiting.{waiting_answer, mask_given}
 use Rattle.registers.specs.Access.{byte_answer, write_record, read_record, read_byte, pot_answer, pot_record}

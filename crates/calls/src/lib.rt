@@ -1,4 +1,4 @@
-// A call as a value, performed on a record: the six calls that take a record, in one.
+//! A call as a value, performed on a record: the six calls that take a record, in one.
 #![tactic(auto)]
 
 ghost use Rattle.std.specs.Prelude.{◌≡◌};
@@ -6,7 +6,7 @@ ghost use Rattle.calls.specs.Asks.{Performs};
 
 use answer::Answer;
 
-#[derive(Clone, Copy)]
+#[derive(Clone, Copy, Debug, PartialEq, Eq)]
 pub enum Ask {
     Reset,
     Write(u32, u8),
@@ -16,15 +16,15 @@ pub enum Ask {
     Frame,
 }
 
-// What a call answers, and the number that it gives beside: a read its byte, `Waiting` the mask of the waiting voices, a frame how many words were
-// missing; 0 of any other.
-#[derive(Clone, Copy)]
+/// What a call answers, and the number that it gives beside: a read its byte, `Waiting` the mask of
+/// the waiting voices, a frame how many words were missing; 0 of any other.
+#[derive(Clone, Copy, Debug, PartialEq, Eq)]
 pub struct Reply {
     pub answer: Answer,
     pub given: u32,
 }
 
-// The call that is asked. Only a frame looks at the sample memory and the output.
+/// The call that is asked. Only a frame looks at the sample memory and the output.
 pub fn perform(m: &mut [u32], ask: Ask, memory: &[u16], out: &mut [i32]) -> Reply
     ensures { Performs m.old memory.now out.old ask result.answer result.given m.new out.new }
 {

@@ -1,10 +1,10 @@
-// The sum of a channel, a word of 23 bits in two's complement.
+//! The sum of a channel, a word of 23 bits in two's complement.
 #![tactic(auto)]
 
 ghost use Rattle.std.specs.Prelude.{◌≡◌, ◌<◌};
 ghost use Rattle.channel.specs.Channel.{mixed, put_out};
 
-// The sum of two words, which wraps.
+/// The sum of two words, which wraps.
 pub fn mix(a: u32, b: u32) -> u32
     requires a_bound { a < 8388608 }
     requires b_bound { b < 8388608 }
@@ -13,7 +13,7 @@ pub fn mix(a: u32, b: u32) -> u32
     (a + b) % 8388608
 }
 
-// What a sum puts out, held to its rails.
+/// What a sum puts out, held to its rails.
 pub fn put_out(sum: u32) -> i32
     requires { sum < 8388608 }
     ensures { result ≡ put_out sum }

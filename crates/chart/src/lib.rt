@@ -1,21 +1,22 @@
-// The code chart as text: for each sample of the input its code and the code's value.
-// Everything but reading and writing is here. Each `put_` function stores its bytes from `at` on and answers the place after them.
+//! The code chart as text: for each sample of the input its code and the code's value.
+//! Everything but reading and writing is here. Each `put_` function stores its bytes from `at` on
+//! and answers the place after them.
 #![tactic(auto)]
 
 ghost use Rattle.std.specs.Prelude.{◌≡◌, ◌++◌, ◌+◌, ◌*◌, ◌<◌, ◌≤◌, length};
 ghost use Rattle.numbers.specs.Numbers.{signed, Within};
 ghost use Rattle.chart.specs.Chart.{decimal, number, line, lines, chart_answer, chart_output, Stored};
 
-// What a chart into a lent output came to.
-#[derive(Clone, Copy)]
+/// What a chart into a lent output came to.
+#[derive(Clone, Copy, Debug, PartialEq, Eq)]
 pub enum Charted {
-    // So many bytes of it are the chart.
+    /// So many bytes of it are the chart.
     Written(usize),
-    // It has less than nine bytes for each byte of input, and is as it was.
+    /// It has less than nine bytes for each byte of input, and is as it was.
     NoRoom,
 }
 
-// The chart of the input, at the start of the output.
+/// The chart of the input, at the start of the output.
 pub fn chart(input: &[u8], out: &mut [u8]) -> Charted
     ensures value { result ≡ chart_answer input.now out.old }
     ensures out_after { out.new ≡ chart_output input.now out.old }

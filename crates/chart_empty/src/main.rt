@@ -1,4 +1,4 @@
-// The chart of no input.
+//! The chart of no input.
 #![tactic(auto)]
 
 use std::io;

@@ -1,4 +1,4 @@
-// The chart of the most bytes that it takes: every even sample, so that each code is met.
+//! The chart of the most bytes that it takes: every even sample, so that each code is met.
 #![tactic(auto)]
 
 use std::io;

@@ -1,5 +1,5 @@
-// The code chart program, but for its `main`: reads an input and writes its chart. One byte more
-// than a chart takes is read, so that a longer input is seen.
+//! The code chart program, but for its `main`: reads an input and writes its chart. One byte more
+//! than a chart takes is read, so that a longer input is seen.
 #![tactic(auto)]
 
 ghost use Rattle.std.specs.Prelude.{◌≡◌, ◌≤◌, length, IfSome, OnOk, OnErr};
@@ -11,16 +11,16 @@ use chart::Charted;
 use std::io;
 use std::io::{Input, Print, Read, Write};
 
-// The chart of standard input, to standard output. Its error is that of a read or a write there. A
-// read that fails leaves nothing written; a write that fails leaves a part of the chart, from its
-// start. What was read is gone from the input.
+/// The chart of standard input, to standard output. Its error is that of a read or a write there. A
+/// read that fails leaves nothing written; a write that fails leaves a part of the chart, from its
+/// start. What was read is gone from the input.
 pub fn run(rt: &(impl Input + Print)) -> io::Result<()> {
     write_chart(&mut rt.reader(), &mut io::writer(rt))
 }
 
-// The chart of all that the reader has, and nothing else, to the writer; where a read or a write
-// fails, a part of it. What was read is gone from the reader, also where that fails; of an input
-// that is too long no more is read than shows it.
+/// The chart of all that the reader has, and nothing else, to the writer; where a read or a write
+/// fails, a part of it. What was read is gone from the reader, also where that fails; of an input
+/// that is too long no more is read than shows it.
 pub fn write_chart<R: Read, W: Write>(reader: &mut R, writer: &mut W) -> io::Result<()>
     ensures taken { ConsumesSome (R.remaining reader.old) (R.remaining reader.new) }
     ensures all_taken { OnOk result (IfSome (R.remaining reader.old) (λ input.

@@ -1,4 +1,4 @@
-// The chart of the manual's examples: both ends of each row of its table, in the table's order.
+//! The chart of the manual's examples: both ends of each row of its table, in the table's order.
 #![tactic(auto)]
 
 use std::io;

@@ -1,4 +1,4 @@
-// The chart of one byte alone.
+//! The chart of one byte alone.
 #![tactic(auto)]
 
 use std::io;

@@ -1,4 +1,4 @@
-// The chart of two pairs and one byte more.
+//! The chart of two pairs and one byte more.
 #![tactic(auto)]
 
 use std::io;

@@ -1,4 +1,4 @@
-// The chart of one byte more than it takes.
+//! The chart of one byte more than it takes.
 #![tactic(auto)]
 
 use std::io;

@@ -1,6 +1,6 @@
-// A RIFF/WAVE file as its chunks: where they end, and the chunk at a place.
-// Nothing is copied: a chunk is its name, and the place and the number of its bytes in the file. Whoever walks over the chunks has the place
-// of the next one as a number.
+//! A RIFF/WAVE file as its chunks: where they end, and the chunk at a place.
+//! Nothing is copied: a chunk is its name, and the place and the number of its bytes in the file.
+//! Whoever walks over the chunks has the place of the next one as a number.
 #![tactic(auto)]
 
 ghost use Rattle.std.specs.Prelude.{◌≡◌, ◌≤◌, length};
@@ -9,34 +9,34 @@ ghost use Rattle.chunks.specs.Walk.{opened_of, reach_of};
 
 pub const MOST_FILE_BYTES: usize = 65536;
 
-// The byte of a file at which its first chunk begins.
+/// The byte of a file at which its first chunk begins.
 pub const FIRST_CHUNK: usize = 12;
 
-// The bytes of a chunk's header, its name and its size.
+/// The bytes of a chunk's header, its name and its size.
 pub const HEADER_BYTES: usize = 8;
 
-#[derive(Clone, Copy)]
+#[derive(Clone, Copy, Debug, PartialEq, Eq)]
 pub struct Chunk {
     pub name: u32,
     pub place: usize,
     pub size: usize,
 }
 
-// What the start of a file comes to.
-#[derive(Clone, Copy)]
+/// What the start of a file comes to.
+#[derive(Clone, Copy, Debug, PartialEq, Eq)]
 pub enum Opened {
-    // It is too long, no RIFF/WAVE, or shorter than it says.
+    /// It is too long, no RIFF/WAVE, or shorter than it says.
     Unheaded,
-    // Its chunks go up to this byte.
+    /// Its chunks go up to this byte.
     Upto(usize),
 }
 
-// What stands at a place.
-#[derive(Clone, Copy)]
+/// What stands at a place.
+#[derive(Clone, Copy, Debug, PartialEq, Eq)]
 pub enum Reach {
-    // A chunk that runs past the end, or fewer bytes than a chunk begins with.
+    /// A chunk that runs past the end, or fewer bytes than a chunk begins with.
     Past,
-    // A whole one, and the place of the next.
+    /// A whole one, and the place of the next.
     Whole { chunk: Chunk, next: usize },
 }
 
@@ -65,7 +65,8 @@ pub fn open(file: &[u8]) -> Opened
     Opened::Upto(HEADER_BYTES + size)
 }
 
-// The chunk whose header begins at a place. Its size may be any number of 32 bits, which a sum of 64 holds.
+/// The chunk whose header begins at a place. Its size may be any number of 32 bits, which a sum of
+/// 64 holds.
 pub fn chunk_at(file: &[u8], end: usize, at: usize) -> Reach
     requires at_le_end { at ≤ end }
     requires end_in_bounds { end ≤ length file.now }

@@ -1,4 +1,4 @@
-// The code chart program, run on the loudest sample, silence and the lowest sample.
+//! The code chart program, run on the loudest sample, silence and the lowest sample.
 #![tactic(auto)]
 
 use std::io;

@@ -1,6 +1,7 @@
-// Compressed samples: expand a code of 8 bits, compress a sample of 16.
-// `expand` reads a table of all 256 values, whose rule is proved over the whole table. `compress` has the exponent from the processor's count of
-// leading zeros, and as it is compiled it takes the same instructions for every sample, which `make -C host test` holds it to.
+//! Compressed samples: expand a code of 8 bits, compress a sample of 16.
+//! `expand` reads a table of all 256 values, whose rule is proved over the whole table. `compress`
+//! has the exponent from the processor's count of leading zeros, and as it is compiled it takes the
+//! same instructions for every sample, which `make -C host test` holds it to.
 #![tactic(auto)]
 
 ghost use Rattle.std.specs.Prelude.{◌≡◌, ◌-◌, ◌<◌, max};
@@ -31,14 +32,15 @@ const VALUES: [i16; 256] = [
     29696, 30720, 31744,
 ];
 
-// The table, for a caller that expands many codes: it is made once, where this is called, and lent to `look_up`.
+/// The table, for a caller that expands many codes: it is made once, where this is called, and lent
+/// to `look_up`.
 pub fn values() -> [i16; 256]
     ensures { Expands result }
 {
     VALUES
 }
 
-// The value of a code, read from the lent table.
+/// The value of a code, read from the lent table.
 pub fn look_up(table: &[i16; 256], code: u8) -> i16
     requires { Expands table.now }
     ensures { result ≡ value_of code }
@@ -47,7 +49,7 @@ pub fn look_up(table: &[i16; 256], code: u8) -> i16
     table[at]
 }
 
-// The value of a code.
+/// The value of a code.
 pub fn expand(code: u8) -> i16
     ensures { result ≡ value_of code }
 {
@@ -55,7 +57,7 @@ pub fn expand(code: u8) -> i16
     look_up(&table, code)
 }
 
-// The code with the greatest value that is not above the sample.
+/// The code with the greatest value that is not above the sample.
 pub fn compress(sample: i16) -> u8
     ensures { Compressed sample result }
 {
@@ -64,7 +66,8 @@ pub fn compress(sample: i16) -> u8
     (32 * e + m) as u8
 }
 
-// The sample, or the complement of a negative one: `s >> 31` has no bit set, or every bit, and `^` with every bit is the complement.
+// The sample, or the complement of a negative one: `s >> 31` has no bit set, or every bit, and `^`
+// with every bit is the complement.
 fn magnitude(sample: i16) -> u32
     ensures { (result ≡ mag sample) × (result < 32768) }
 {
@@ -72,8 +75,9 @@ fn magnitude(sample: i16) -> u32
     (s ^ (s >> 31)) as u32
 }
 
-// The exponent of a sample of magnitude t: how many of the bits 8 to 14 it takes. The bits below do not matter to it; they are set, so that
-// no more than 24 zeros are counted and no comparison is needed.
+// The exponent of a sample of magnitude t: how many of the bits 8 to 14 it takes. The bits below do
+// not matter to it; they are set, so that no more than 24 zeros are counted and no comparison is
+// needed.
 fn exponent(t: u32) -> u32
     requires { t < 32768 }
     ensures { Exponent t result }
@@ -81,8 +85,8 @@ fn exponent(t: u32) -> u32
     24 - u32::leading_zeros(t | 255)
 }
 
-// The mantissa of a sample of exponent e: the leading bits that equal its sign are shifted out, at most 23 of the 32 that it has as an `i32`, and
-// the five then on top are it.
+// The mantissa of a sample of exponent e: the leading bits that equal its sign are shifted out, at
+// most 23 of the 32 that it has as an `i32`, and the five then on top are it.
 fn mantissa(sample: i16, e: u32) -> u32
     requires { e < 8 }
     ensures { (result ≡ word 5 (floor_div sample (spacing e))) × (result < 32) }

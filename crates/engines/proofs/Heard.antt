@@ -10,6 +10,7 @@ use mathlib.Core.List.{List, [], ◌∷◌, ◌++◌, map}
 use Prim.Native.Nat.{ℕ, suc}
 use lib.IntN.{ℤ, pos}
 use lib.ListN.{get_or, set, replicate}
+use Rattle.answer.specs.Answer.{Answer, Done}
 use Rattle.numbers.specs.Numbers.{floor_div, floor_mod, minus, signed, word, held}
 use Rattle.numbers.specs.Sum.{sum}
 use Rattle.control.specs.Control.{bit_of, flag_of, with_bit, runs}
@@ -20,8 +21,7 @@ use Rattle.ramp.specs.Ramp.{increment, ramped, slow_ramped}
 use Rattle.address.specs.Address.{raised, forward_event, forward, stepped}
 use Rattle.sample.specs.Sample.{first_at, second_at, sample_of, fetched, fraction, interpolated, missing_of}
 use Rattle.voice.specs.Turn.{last_outputs, ramped_levels, with_outputs, moved, stopped_turn, sampled, running_turn, turn_of}
-use Rattle.answer.specs.declared.Answer.{Answer}
-use Rattle.answer.specs.declared.Answer.TheVariants.{Done, OutputLength}
+use Rattle.answer.specs.declared.Refusal.TheVariants.{OutputLength}
 use Rattle.machine.specs.Words.{CR, ACCUM, ACTV, voice_word, shared_bits, bits_of, cut, cut_to, is_vector, has_true_mask, waiting_voices, with_mask, valid, IRQV, NO_INTERRUPT}
 use Rattle.machine.specs.Voices.{voice_at, put_voice}
 use Rattle.machine.specs.Check.{checked}

@@ -13,7 +13,7 @@ use Rattle.numbers.specs.Numbers.{signed}
 use Rattle.numbers.proofs.Tests.{either, split}
 use Rattle.numbers.proofs.Words.{held_mag}
 use Rattle.answer.specs.Answer.{is_done}
-use Rattle.answer.specs.declared.Answer.TheVariants.{Pot}
+use Rattle.answer.specs.declared.Refusal.TheVariants.{Pot}
 use Rattle.answer.proofs.Refusals.{is_done_lem}
 use Rattle.channel.specs.Channel.{put_out}
 use Rattle.machine.specs.Words.{SUMS, OUTPUT_VALUES, valid}

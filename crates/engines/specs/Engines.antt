@@ -3,8 +3,7 @@
 -- of what can be lent alone, since no code is ever lent anything else. Assumes nothing.
 use Rattle.std.specs.Prelude.{◌≡◌, true, false, List, [], ◌∷◌, ℕ, ◌^◌, ◌<◌, ℤ, pos, replicate}
 use Rattle.numbers.specs.Numbers.{Bits}
-use Rattle.answer.specs.Answer.{is_done}
-use Rattle.answer.specs.declared.Answer.{Answer}
+use Rattle.answer.specs.Answer.{Answer, is_done}
 use Rattle.machine.specs.Words.{OUTPUT_VALUES}
 use Rattle.calls.specs.Calls.{answer_to, after, given_by}
 use Rattle.calls.specs.Asks.{call_of, output_of, Performs}

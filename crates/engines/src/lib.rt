@@ -1,3 +1,4 @@
-// What an engine is, that the promises can be kept, and that no wrong engine keeps them: definitions and theorems alone.
+//! What an engine is, that the promises can be kept, and that no wrong engine keeps them:
+//! definitions and theorems alone.
 
 #![tactic(auto)]

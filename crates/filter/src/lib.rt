@@ -1,4 +1,5 @@
-// The four poles that a voice's samples pass. Outputs are numbers of 18 bits, and each pole keeps them so.
+//! The four poles that a voice's samples pass. Outputs are numbers of 18 bits, and each pole keeps
+//! them so.
 #![tactic(auto)]
 
 ghost use Rattle.std.specs.Prelude.{◌≡◌, ◌<◌, pos, ◌*ℤ◌};
@@ -6,8 +7,8 @@ ghost use Rattle.numbers.specs.Numbers.{floor_div, Bits};
 ghost use Rattle.filter.specs.Filter.{low_pass, high_pass, coefficient, pole3, pole4, filtered};
 ghost use Rattle.filter.specs.PoleBits.{PoleBits};
 
-// The last outputs of poles 1 to 4.
-#[derive(Clone, Copy)]
+/// The last outputs of poles 1 to 4.
+#[derive(Clone, Copy, Debug, PartialEq, Eq)]
 pub struct Poles {
     pub o1: i32,
     pub o2: i32,
@@ -15,7 +16,7 @@ pub struct Poles {
     pub o4: i32,
 }
 
-// The outputs after the sample x has passed.
+/// The outputs after the sample x has passed.
 pub fn filter(cr: u32, k1: u32, k2: u32, x: i32, p: Poles) -> Poles
     requires k1_bound { k1 < 65536 }
     requires k2_bound { k2 < 65536 }

@@ -1,5 +1,6 @@
 -- The frame call by its answer. In order: what a frame asks for, `Ready`; each refusal, and done, and back; the promise of a frame that is
 -- refused, of one with too few voices, and of one that is done; tightness. Assumes nothing.
+use Rattle.std.specs.Prelude.{Err}
 use mathlib.Core.Path.{◌≡◌, refl, sym, ap, ◌∙◌}
 use mathlib.Core.Bool.{Bool, true, false, not}
 use mathlib.Core.List.{List, [], ◌∷◌}
@@ -8,9 +9,9 @@ use borrow.Author.Tests.{eq-eqb, ne_eqb, lt-ltb, le-ltb, eqb-true, ltb-false, no
 use lib.Dec.{eqb, ltb}
 use lib.IntN.{ℤ}
 use lib.ListN.{length}
-use Rattle.answer.specs.Answer.{is_done}
-use Rattle.answer.specs.declared.Answer.{Answer}
-use Rattle.answer.specs.declared.Answer.TheVariants.{Done, RecordLength, RecordInvalid, TooFewVoices, MemoryLength, OutputLength}
+use Rattle.answer.specs.Answer.{Answer, Done, is_done}
+use Rattle.answer.specs.declared.Refusal.{Refusal}
+use Rattle.answer.specs.declared.Refusal.TheVariants.{RecordLength, RecordInvalid, TooFewVoices, MemoryLength, OutputLength}
 use Rattle.answer.proofs.Refusals.{none_holds, refused_early}
 use Rattle.machine.specs.Words.{OUTPUT_VALUES, valid}
 use Rattle.machine.specs.Check.{wrong_length, not_valid, checked}
@@ -28,16 +29,16 @@ pub record Ready (m memory : List ℕ) (out : List ℤ) : Type 0 where
   pub values : length out ≡ OUTPUT_VALUES
 
 module _ (m memory : List ℕ) (out : List ℤ) where
-  pub refused_voices : Sound m → too_few m ≡ true → frame_answer m memory out ≡ TooFewVoices
+  pub refused_voices : Sound m → too_few m ≡ true → frame_answer m memory out ≡ Err TooFewVoices
   unfolding frame_answer
   refused_voices s k = let t = sound_tests m s in rw (t.0, t.1, k)
 
   module _ (s : Sound m) (v : too_few m ≡ false) where
-    pub refused_memory : MOST_MEMORY_WORDS < length memory → frame_answer m memory out ≡ MemoryLength
+    pub refused_memory : MOST_MEMORY_WORDS < length memory → frame_answer m memory out ≡ Err MemoryLength
     unfolding frame_answer
     refused_memory k = let t = sound_tests m s in rw (t.0, t.1, v, lt-ltb MOST_MEMORY_WORDS (length memory) k)
 
-    pub refused_output : length memory ≤ MOST_MEMORY_WORDS → (length out ≡ OUTPUT_VALUES → ⊥) → frame_answer m memory out ≡ OutputLength
+    pub refused_output : length memory ≤ MOST_MEMORY_WORDS → (length out ≡ OUTPUT_VALUES → ⊥) → frame_answer m memory out ≡ Err OutputLength
     unfolding frame_answer
     refused_output k l =
         let t = sound_tests m s in
@@ -50,7 +51,7 @@ module _ (m memory : List ℕ) (out : List ℤ) where
       rw (t.0, t.1, r.voices, le-ltb MOST_MEMORY_WORDS (length memory) r.samples, eq-eqb (length out) OUTPUT_VALUES r.values)
 
   -- the tests of the voices, the memory and the output, which come after those of the record
-  abbrev later : List (Bool × Answer)
+  abbrev later : List (Bool × Refusal)
   later = (too_few m, TooFewVoices) ∷ (ltb MOST_MEMORY_WORDS (length memory), MemoryLength) ∷ (not (eqb (length out) OUTPUT_VALUES), OutputLength) ∷ []
 
   pub refused_record : is_done (checked m) ≡ false → frame_answer m memory out ≡ checked m

@@ -13,8 +13,7 @@ use lib.ListN.{length, get_or}
 use Rattle.numbers.specs.Sum.{sum}
 use Rattle.numbers.proofs.Sum.{sum_ext, sum_most, sum_zeros, none_summed}
 use Rattle.numbers.proofs.Tests.{either}
-use Rattle.answer.specs.Answer.{is_done}
-use Rattle.answer.specs.declared.Answer.TheVariants.{Done}
+use Rattle.answer.specs.Answer.{Done, is_done}
 use Rattle.answer.proofs.Refusals.{is_done_lem}
 use Rattle.machine.specs.Words.{ACTV}
 use Rattle.machine.specs.Voices.{voice_at}

@@ -13,8 +13,8 @@ use borrow.Author.Tests.{ne_eqb}
 use lib.Dec.{eqb, lit<, lit≤}
 use lib.IntN.{ℤ}
 use lib.ListN.{get_or}
+use Rattle.answer.specs.Answer.{Done}
 use Rattle.numbers.proofs.Tests.{split, cases}
-use Rattle.answer.specs.declared.Answer.TheVariants.{Done}
 use Rattle.control.specs.Control.{flag_of, IRQ}
 use Rattle.machine.specs.Words.{CR, IRQV, ACTV, SLOW, WAIT_MASK, NO_INTERRUPT, waits}
 use Rattle.machine.specs.Voices.{voice_at}

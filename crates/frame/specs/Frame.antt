@@ -3,9 +3,8 @@
 -- specs/Missing. Assumes nothing.
 use Rattle.std.specs.Prelude.{◌≡◌, ℕ, zero, suc, ◌+◌, ◌*◌, ◌%◌, Bool, cond, not, ◌&&◌, List, [], ◌∷◌, ◌++◌, map, eqb, ltb, ℤ, length, get_or, set, take, drop, replicate}
 use Rattle.numbers.specs.Numbers.{word}
-use Rattle.answer.specs.Answer.{is_done, first_refusal}
-use Rattle.answer.specs.declared.Answer.{Answer}
-use Rattle.answer.specs.declared.Answer.TheVariants.{RecordLength, RecordInvalid, TooFewVoices, MemoryLength, OutputLength}
+use Rattle.answer.specs.Answer.{Answer, first_refusal, is_done}
+use Rattle.answer.specs.declared.Refusal.TheVariants.{RecordLength, RecordInvalid, TooFewVoices, MemoryLength, OutputLength}
 use Rattle.control.specs.Control.{flag_of, channel_of, IRQ}
 use Rattle.channel.specs.Channel.{mixed, put_out}
 use Rattle.machine.specs.Words.{IRQV, ACTV, SLOW, SUMS, OUTPUT_VALUES, NO_INTERRUPT, with_mask}

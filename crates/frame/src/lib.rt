@@ -1,6 +1,7 @@
-// One frame over the record: the turns of voices 0 to ACTV, and the closing.
-// A voice's twenty words are lent to its turn as a part of the record; what it adds to its channel comes back by value, and is added here. The
-// number of missing words is lent to each turn, which adds its own.
+//! One frame over the record: the turns of voices 0 to ACTV, and the closing.
+//! A voice's twenty words are lent to its turn as a part of the record; what it adds to its channel
+//! comes back by value, and is added here. The number of missing words is lent to each turn, which
+//! adds its own.
 #![tactic(auto)]
 
 ghost use Rattle.std.specs.Prelude.{◌≡◌, true, cond, map, ℕ, ◌+◌, ◌*◌, ◌%◌, ◌^◌, ◌<◌, length, get_or, replicate};
@@ -21,14 +22,15 @@ use answer::Answer;
 // The least ACTV that a frame takes: five active voices.
 const LEAST_ACTV: u32 = 4;
 
-// What a frame answers, and how many words of sample memory its running voices asked for and missed.
-#[derive(Clone, Copy)]
+/// What a frame answers, and how many words of sample memory its running voices asked for and
+/// missed.
+#[derive(Clone, Copy, Debug, PartialEq, Eq)]
 pub struct Framed {
     pub answer: Answer,
     pub missing: u32,
 }
 
-// One frame: twelve values in channel order, left before right.
+/// One frame: twelve values in channel order, left before right.
 pub fn frame(m: &mut [u32], memory: &[u16], out: &mut [i32]) -> Framed
     ensures { Frames m.old memory.now out.old result.answer result.missing m.new out.new }
 {
@@ -47,7 +49,8 @@ pub fn frame(m: &mut [u32], memory: &[u16], out: &mut [i32]) -> Framed
     }
 }
 
-// Why a frame is refused: the record asked first, then how many voices it has active, the memory, and the output; Done where it is not.
+// Why a frame is refused: the record asked first, then how many voices it has active, the memory,
+// and the output; Done where it is not.
 fn refusal(m: &[u32], memory: &[u16], out: &[i32]) -> Answer
     ensures { result ≡ frame_answer m.now memory.now out.now }
 {
@@ -67,8 +70,8 @@ fn refusal(m: &[u32], memory: &[u16], out: &[i32]) -> Answer
     Answer::Done
 }
 
-// The turns of voices 0 to ACTV, and how many words they miss together. What all turns share is made once here and lent to each: of each bank
-// the last word that is lent, and the table of codes.
+// The turns of voices 0 to ACTV, and how many words they miss together. What all turns share is
+// made once here and lent to each: of each bank the last word that is lent, and the table of codes.
 fn play(m: &mut [u32], memory: &[u16]) -> u32
     requires { valid m.old ≡ true }
     ensures { (m.new ≡ played memory.now m.old) × (result ≡ missed_in memory.now m.old) }
@@ -147,8 +150,8 @@ fn left_sum(channel: u32) -> usize
     machine::SUMS + 2 * channel as usize
 }
 
-// A waiting voice goes into the mask, and enters an empty vector. A turn never clears a flag, so where the voice does not wait the mask is true
-// already, and costs nothing.
+// A waiting voice goes into the mask, and enters an empty vector. A turn never clears a flag, so
+// where the voice does not wait the mask is true already, and costs nothing.
 fn signal(m: &mut [u32], v: usize, cr: u32)
     requires m_len { length m.old ≡ RECORD_WORDS }
     requires v_bound { v < VOICES }
@@ -176,7 +179,8 @@ fn close(m: &mut [u32], out: &mut [i32])
     m[machine::SLOW] = next(slow);
 }
 
-// The sums, which become 0 where they stood. Taken by value they cannot be part of the output, so the compiler holds four at a time.
+// The sums, which become 0 where they stood. Taken by value they cannot be part of the output, so
+// the compiler holds four at a time.
 fn take_sums(sums: &mut [u32]) -> [u32; machine::OUTPUT_VALUES]
     requires { length sums.old ≡ OUTPUT_VALUES }
     ensures { (result ≡ sums.old) × (sums.new ≡ replicate OUTPUT_VALUES 0) }

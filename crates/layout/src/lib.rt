@@ -1,6 +1,7 @@
-// Numbers of two and of four bytes, the lowest first, and of two, the highest first: made of their bytes, and read at a place of a slice; the bytes of
-// a number, the lowest first; and four bytes put into a slice.
-// What the places of a file are is the format's own; here is only how its numbers are written.
+//! Numbers of two and of four bytes, the lowest first, and of two, the highest first: made of their
+//! bytes, and read at a place of a slice; the bytes of a number, the lowest first; and four bytes
+//! put into a slice.
+//! What the places of a file are is the format's own; here is only how its numbers are written.
 #![tactic(auto)]
 
 ghost use Rattle.std.specs.Prelude.{◌≡◌, [], ◌∷◌, ◌+◌, ◌≤◌, length};
@@ -72,7 +73,7 @@ pub fn big2_at(bytes: &[u8], at: usize) -> u16
 
 // ---- bytes put
 
-// Four bytes in the place of those from `at` on.
+/// Four bytes in the place of those from `at` on.
 pub fn put4(bytes: &mut [u8], at: usize, a: u8, b: u8, c: u8, d: u8)
     requires { at + 4 ≤ length bytes.old }
     ensures { bytes.new ≡ with_part bytes.old at (a ∷ b ∷ c ∷ d ∷ []) }

@@ -1,14 +1,14 @@
 -- What the check of a record answers, by the record: of another length; with a stray bit or a false mask; with a vector that is none, or one.
 -- And back: a record that is not refused is sound. Then what a reset and the call that tells which voices wait promise. Assumes nothing.
+use Rattle.std.specs.Prelude.{Err}
 use mathlib.Core.Path.{◌≡◌, refl, sym, ap, ◌∙◌}
 use mathlib.Core.Bool.{Bool, true, false, cond, ◌&&◌, and_assoc, and_comm}
 use mathlib.Core.List.{List, [], ◌∷◌}
 use Prim.Native.Nat.{ℕ, ◌<◌}
 use lib.ListN.{length, get_or}
 use borrow.Author.Tests.{eq-eqb, ne_eqb, not-false}
-use Rattle.answer.specs.Answer.{is_done}
-use Rattle.answer.specs.declared.Answer.{Answer}
-use Rattle.answer.specs.declared.Answer.TheVariants.{Done, RecordLength, RecordInvalid}
+use Rattle.answer.specs.Answer.{Answer, Done, is_done}
+use Rattle.answer.specs.declared.Refusal.TheVariants.{RecordLength, RecordInvalid}
 use Rattle.answer.proofs.Refusals.{none_holds}
 use Rattle.control.specs.Control.{flag_of}
 use Rattle.machine.specs.Words.{cut_to, is_vector, has_true_mask, valid, waits, waiting_voices, IRQV, VOICES, WAIT_MASK, RECORD_WORDS}
@@ -19,7 +19,7 @@ use Rattle.machine.proofs.Mask.{flag_waits, none_waits, waits_none}
 use Rattle.machine.proofs.Valid.{both, Sound, sound, is_valid}
 
 module _ (m : List ℕ) where
-  pub wrong_size : (length m ≡ RECORD_WORDS → ⊥) → reset_answer m ≡ RecordLength
+  pub wrong_size : (length m ≡ RECORD_WORDS → ⊥) → reset_answer m ≡ Err RecordLength
   unfolding reset_answer
   wrong_size h = rw (ne_eqb (length m) RECORD_WORDS h)
 
@@ -27,11 +27,11 @@ module _ (m : List ℕ) where
   unfolding reset_answer
   right_size h = rw (eq-eqb (length m) RECORD_WORDS h)
 
-  pub check_size : (length m ≡ RECORD_WORDS → ⊥) → checked m ≡ RecordLength
+  pub check_size : (length m ≡ RECORD_WORDS → ⊥) → checked m ≡ Err RecordLength
   unfolding checked
   check_size h = rw (ne_eqb (length m) RECORD_WORDS h)
 
-  pub check_words : length m ≡ RECORD_WORDS → (cut_to m RECORD_WORDS && has_true_mask m) ≡ false → checked m ≡ RecordInvalid
+  pub check_words : length m ≡ RECORD_WORDS → (cut_to m RECORD_WORDS && has_true_mask m) ≡ false → checked m ≡ Err RecordInvalid
   unfolding checked valid
   check_words h k = rw (
     eq-eqb (length m) RECORD_WORDS h,
@@ -41,7 +41,7 @@ module _ (m : List ℕ) where
   )
 
   pub check_vector : length m ≡ RECORD_WORDS → (cut_to m RECORD_WORDS && has_true_mask m) ≡ true → (b : Bool) → is_vector (get_or m IRQV 0) ≡ b
-      → checked m ≡ cond b Done RecordInvalid
+      → checked m ≡ cond b Done (Err RecordInvalid)
   unfolding checked valid
   check_vector h k true q = let p = both (cut_to m RECORD_WORDS) (has_true_mask m) k in rw (eq-eqb (length m) RECORD_WORDS h, p.0, p.1, q)
   check_vector h k false q = let p = both (cut_to m RECORD_WORDS) (has_true_mask m) k in rw (eq-eqb (length m) RECORD_WORDS h, p.0, q)

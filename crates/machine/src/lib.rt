@@ -1,5 +1,5 @@
-// The machine record: its words by name, the bits that each keeps, the check that every call on a record but a reset begins with, the waiting
-// voices, and reset.
+//! The machine record: its words by name, the bits that each keeps, the check that every call on a
+//! record but a reset begins with, the waiting voices, and reset.
 #![tactic(auto)]
 
 ghost use Rattle.std.specs.Prelude.{◌≡◌, ◌&&◌, ◌+◌, ◌<◌, ◌≤◌, length, get_or};
@@ -14,14 +14,14 @@ ghost use Rattle.machine.specs.Waiting.{TellsWaiting};
 
 use answer::Answer;
 
-// How many words a record has; how many voices it has, and how many words each.
+/// How many words a record has; how many voices it has, and how many words each.
 pub const RECORD_WORDS: usize = 664;
 
 pub const VOICES: usize = 32;
 
 pub const VOICE_WORDS: usize = 20;
 
-// The words of a voice, from its first.
+/// The words of a voice, from its first.
 pub const CR: usize = 0;
 
 pub const FC: usize = 1;
@@ -62,7 +62,7 @@ pub const O2N2: usize = 18;
 
 pub const O1N1: usize = 19;
 
-// The words after the voices', which all voices share.
+/// The words after the voices', which all voices share.
 pub const PAGE: usize = 640;
 
 pub const IRQV: usize = 641;
@@ -85,26 +85,28 @@ pub const WRITE_LATCH: usize = 649;
 
 pub const READ_LATCH: usize = 650;
 
-// The channel sums, 0L, 0R to 5L, 5R, one for each value that a frame puts out; and the word after the last.
+/// The channel sums, 0L, 0R to 5L, 5R, one for each value that a frame puts out; and the word after
+/// the last.
 pub const SUMS: usize = 651;
 
 pub const OUTPUT_VALUES: usize = 12;
 
 pub const SUMS_END: usize = SUMS + OUTPUT_VALUES;
 
-// The mask of the waiting voices: bit v is the interrupt flag of voice v.
+/// The mask of the waiting voices: bit v is the interrupt flag of voice v.
 pub const WAIT_MASK: usize = 663;
 
-// How many shared words there are.
+/// How many shared words there are.
 pub const SHARED_WORDS: usize = 24;
 
-// What the interrupt vector holds where it names no voice.
+/// What the interrupt vector holds where it names no voice.
 pub const NO_INTERRUPT: u32 = 128;
 
-// The greatest pot value, which PAR also holds after a reset and once it is read.
+/// The greatest pot value, which PAR also holds after a reset and once it is read.
 pub const POT_LIMIT: u32 = 1023;
 
-// The bits kept by a filter word of a voice, and by a sum: the check holds four words at a time against one of these.
+// The bits kept by a filter word of a voice, and by a sum: the check holds four words at a time
+// against one of these.
 const FILTER_BITS: u32 = 0x3FFFF;
 
 const SUM_BITS: u32 = 0x7F_FFFF;
@@ -160,7 +162,7 @@ const SHARED_BITS: [u32; SHARED_WORDS] = [
     0xFFFF_FFFF, // the mask
 ];
 
-// The bits that word i keeps.
+/// The bits that word i keeps.
 pub fn bits_of(i: usize) -> u32
     requires { i < Words-as-RECORD_WORDS }
     ensures { result ≡ bits_of i }
@@ -174,8 +176,9 @@ pub fn bits_of(i: usize) -> u32
     }
 }
 
-// Whether a record may be used: its length, then its words and its mask, then the vector. The stray bits of all words go into four lanes, so that
-// the compiler takes four words at a time; they are judged when all are in, and with them the bits in which the mask is false.
+/// Whether a record may be used: its length, then its words and its mask, then the vector. The
+/// stray bits of all words go into four lanes, so that the compiler takes four words at a time;
+/// they are judged when all are in, and with them the bits in which the mask is false.
 pub fn check(m: &[u32]) -> Answer
     ensures { result ≡ checked m.now }
 {
@@ -217,8 +220,9 @@ fn look_at_four(m: &[u32], j: usize, kept: &[u32; VOICE_WORDS], stray: &mut [u32
     }
 }
 
-// The stray bits of the voices' last four words, of the sums and of the words between go into the lanes. The last four words keep the same bits,
-// and so do the sums; only the words between have bits of their own. They are eleven, so the last lane takes the first sum twice.
+// The stray bits of the voices' last four words, of the sums and of the words between go into the
+// lanes. The last four words keep the same bits, and so do the sums; only the words between have
+// bits of their own. They are eleven, so the last lane takes the first sum twice.
 fn look_at_rest(m: &[u32], kept: &[u32; SHARED_WORDS], stray: &mut [u32; 4])
     requires m_len { length m.now ≡ Words-as-RECORD_WORDS }
     requires kept_value { kept.now ≡ shared_bits }
@@ -240,7 +244,8 @@ fn look_at_rest(m: &[u32], kept: &[u32; SHARED_WORDS], stray: &mut [u32; 4])
     }
 }
 
-// All bits that word j has in any voice. The word keeps the same bits in every voice, so what is gathered is held against them once.
+// All bits that word j has in any voice. The word keeps the same bits in every voice, so what is
+// gathered is held against them once.
 fn gather(m: &[u32], j: usize) -> u32
     requires m_len { length m.now ≡ Words-as-RECORD_WORDS }
     requires j_bound { j < 20 }
@@ -253,7 +258,8 @@ fn gather(m: &[u32], j: usize) -> u32
     all
 }
 
-// The same of word O3N2 + l. A function with two callers is not put in line, so the last four words have one of their own.
+// The same of word O3N2 + l. A function with two callers is not put in line, so the last four words
+// have one of their own.
 fn gather_last(m: &[u32], l: usize) -> u32
     requires m_len { length m.now ≡ Words-as-RECORD_WORDS }
     requires l_bound { l < 4 }
@@ -266,8 +272,9 @@ fn gather_last(m: &[u32], l: usize) -> u32
     all
 }
 
-// The mask that the control registers make. From the last voice down each flag joins those above it, which move up; all stand where CR has
-// its flag until they are in, since a flag that stays where it is takes one instruction less.
+// The mask that the control registers make. From the last voice down each flag joins those above
+// it, which move up; all stand where CR has its flag until they are in, since a flag that stays
+// where it is takes one instruction less.
 fn gather_flags(m: &[u32]) -> u32
     requires { length m.now ≡ Words-as-RECORD_WORDS }
     ensures { result ≡ waiting_voices m.now }
@@ -280,7 +287,7 @@ fn gather_flags(m: &[u32]) -> u32
     (flags >> control::IRQ) as u32
 }
 
-// The mask is true of every other voice than v, whose flag is b now: it is made true.
+/// The mask is true of every other voice than v, whose flag is b now: it is made true.
 pub fn mark(m: &mut [u32], v: usize, b: u32)
     requires m_len { length m.old ≡ Words-as-RECORD_WORDS }
     requires v_bound { (v < Words-as-VOICES) × (b ≤ 1) }
@@ -291,14 +298,14 @@ pub fn mark(m: &mut [u32], v: usize, b: u32)
     m[WAIT_MASK] = control::put(v as u32, b, mask);
 }
 
-// What a host that asks is told: the answer, and the mask.
-#[derive(Clone, Copy)]
+/// What a host that asks is told: the answer, and the mask.
+#[derive(Clone, Copy, Debug, PartialEq, Eq)]
 pub struct Told {
     pub answer: Answer,
     pub mask: u32,
 }
 
-// Which voices wait, for the host to see in one look.
+/// Which voices wait, for the host to see in one look.
 pub fn waiting(m: &[u32]) -> Told
     ensures { TellsWaiting m.now result.answer result.mask }
 {
@@ -312,7 +319,8 @@ pub fn waiting(m: &[u32]) -> Told
     }
 }
 
-// The record as it is after power-on. The old contents do not matter; only a record of another length is refused.
+/// The record as it is after power-on. The old contents do not matter; only a record of another
+/// length is refused.
 pub fn reset(m: &mut [u32]) -> Answer
     ensures { Resets m.old result m.new }
 {

@@ -3,8 +3,7 @@ use mathlib.Core.Path.{◌≡◌, refl, ap, ◌∙◌}
 use mathlib.Core.List.{List}
 use Prim.Native.Nat.{ℕ}
 use lib.IntN.{ℤ}
-use Rattle.answer.specs.Answer.{answer_number}
-use Rattle.answer.specs.declared.Answer.{Answer}
+use Rattle.answer.specs.Answer.{Answer, answer_number}
 use Rattle.machine.specs.Reset.{Resets}
 use Rattle.machine.specs.Waiting.{TellsWaiting}
 use Rattle.registers.specs.Access.{Writes, Reads, SetsPot}

@@ -1,5 +1,5 @@
-// The engine for hosts in C, C++ and Rust: each call under its C name, with the promise of the call. A slice passes as a pointer and a
-// length. `include/otto.h` is the other side.
+//! The engine for hosts in C, C++ and Rust: each call under its C name, with the promise of the
+//! call. A slice passes as a pointer and a length. `include/otto.h` is the other side.
 #![tactic(auto)]
 
 ghost use Rattle.std.specs.Prelude.{◌≡◌};
@@ -77,7 +77,7 @@ pub extern "C" fn otto_expand(code: u8) -> i16
     codes::expand(code)
 }
 
-// What `loop` is in the header has another name here: `loop` is a word of the language.
+/// What `loop` is in the header has another name here: `loop` is a word of the language.
 #[unsafe(no_mangle)]
 pub extern "C" fn otto_import(
     file: &[u8],

@@ -1,7 +1,9 @@
-// Plays a score from standard input and writes what is heard of it as a WAVE file: stereo, 16 bits, 31,250 samples a second.
-// On standard error it says how far it is, and at the end the loudest sample and how many calls were refused. A score that is not good gives a line
-// there and nothing else. What a score is, and what is heard of it, is the crate `scores`. A failed read or write of
-// standard input or output ends the program with its error; what was written until then stands.
+//! Plays a score from standard input and writes what is heard of it as a WAVE file: stereo, 16
+//! bits, 31,250 samples a second.
+//! On standard error it says how far it is, and at the end the loudest sample and how many calls
+//! were refused. A score that is not good gives a line there and nothing else. What a score is, and
+//! what is heard of it, is the crate `scores`. A failed read or write of standard input or output
+//! ends the program with its error; what was written until then stands.
 #![tactic(auto)]
 
 ghost use Rattle.std.specs.Prelude.{◌≡◌, ◌*◌, ◌≤◌, length, take};
@@ -13,7 +15,8 @@ use scores::Verdict;
 use std::io;
 use std::io::{Eprint, Print, Write};
 
-// One byte more than a score may have is read, so that a longer one is seen. Nothing is written before the whole score is known to be good.
+// One byte more than a score may have is read, so that a longer one is seen. Nothing is written
+// before the whole score is known to be good.
 fn main(rt: HostRuntime) -> io::Result<()> {
     let mut input = [0u8; 65537];
     let n = streams::read_full(&mut rt.reader(), &mut input)?;
@@ -79,7 +82,8 @@ fn put_head(rt: &impl Print, bytes: u32) -> io::Result<()>
     file.write_all(&wave_head::data_head(bytes))
 }
 
-// The score in parts, of 16,384 calls each. A score has at most 2^32 calls, so that no sum here wraps.
+// The score in parts, of 16,384 calls each. A score has at most 2^32 calls, so that no sum here
+// wraps.
 fn render(
     rt: &(impl Print + Eprint),
     m: &mut [u32],
@@ -107,7 +111,8 @@ fn render(
     Ok(())
 }
 
-// Room for the sound of a part. A function of its own, so that the proof of `render` has the length and not the list.
+// Room for the sound of a part. A function of its own, so that the proof of `render` has the length
+// and not the list.
 fn part_buffer() -> [u8; 65536]
     ensures { 65536 ≡ length result }
 {

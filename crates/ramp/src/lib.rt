@@ -1,10 +1,10 @@
-// Ramps: a volume or a filter coefficient moved by its ramp register.
+//! Ramps: a volume or a filter coefficient moved by its ramp register.
 #![tactic(auto)]
 
 ghost use Rattle.std.specs.Prelude.{◌≡◌, ◌<◌};
 ghost use Rattle.ramp.specs.Ramp.{ramped, slow_ramped};
 
-// A value moved by its ramp.
+/// A value moved by its ramp.
 pub fn ramp(value: u32, by: u32) -> u32
     requires { value < 65536 }
     ensures { (result ≡ ramped value by) × (result < 65536) }
@@ -13,7 +13,7 @@ pub fn ramp(value: u32, by: u32) -> u32
     numbers::word_of(16, numbers::hold(0, 65535, value as i32 + increment))
 }
 
-// A coefficient moved by its ramp, which may be slow.
+/// A coefficient moved by its ramp, which may be slow.
 pub fn slow_ramp(slow: u32, value: u32, by: u32) -> u32
     requires { value < 65536 }
     ensures { (result ≡ slow_ramped slow value by) × (result < 65536) }

@@ -12,7 +12,7 @@ use lib.ListN.{length, get_or, set, length-set}
 use lib.Seq.{get_or-set_other}
 use Rattle.numbers.proofs.Tests.{either}
 use Rattle.answer.specs.Answer.{is_done}
-use Rattle.answer.specs.declared.Answer.TheVariants.{Pot}
+use Rattle.answer.specs.declared.Refusal.TheVariants.{Pot}
 use Rattle.machine.specs.Words.{PAGE, PAR, WRITE_LATCH, RECORD_WORDS, voice_word, cut, with_mask, valid}
 use Rattle.machine.specs.Voices.{voice_at}
 use Rattle.machine.proofs.Parts.{voice_set, voice_set_out, voice_set_shared}

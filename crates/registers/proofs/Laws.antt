@@ -8,9 +8,9 @@ use lib.Dec.{ltb}
 use lib.ListN.{get_or, set}
 use borrow.Author.Tests.{lt-ltb, le-ltb, ltb-false}
 use Rattle.numbers.proofs.Tests.{split}
-use Rattle.answer.specs.Answer.{is_done, first_refusal}
-use Rattle.answer.specs.declared.Answer.{Answer}
-use Rattle.answer.specs.declared.Answer.TheVariants.{Done, RecordLength, RecordInvalid, Address}
+use Rattle.answer.specs.Answer.{Answer, Done, first_refusal, is_done}
+use Rattle.answer.specs.declared.Refusal.{Refusal}
+use Rattle.answer.specs.declared.Refusal.TheVariants.{RecordLength, RecordInvalid, Address}
 use Rattle.answer.proofs.Refusals.{none_holds, refused_early}
 use Rattle.machine.specs.Words.{PAR, READ_LATCH}
 use Rattle.machine.specs.Check.{wrong_length, not_valid, checked}
@@ -29,7 +29,7 @@ module _ (m : List ℕ) (bound x : ℕ) (far : Answer) where
   pub asked_bad : (r : Answer) → r ≡ checked m → is_done r ≡ false → asked ≡ r
   unfolding checked
   asked_bad r e h =
-      let tests : List (Bool × Answer) = (wrong_length m, RecordLength) ∷ (not_valid m, RecordInvalid) ∷ [] in
+      let tests : List (Bool × Refusal) = (wrong_length m, RecordLength) ∷ (not_valid m, RecordInvalid) ∷ [] in
       refused_early tests ((ltb bound x, far) ∷ []) (sym (ap is_done e) ∙ h) ∙ sym e
 
   pub asked_far : Sound m → bound < x → asked ≡ far

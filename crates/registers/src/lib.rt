@@ -1,6 +1,6 @@
-// The registers by byte: write a byte, read a byte, set the pot result.
-// Each public call checks what it is lent, refuses, or hands on to one worker; `decode` is the one map from page and register to word,
-// for writes and reads alike.
+//! The registers by byte: write a byte, read a byte, set the pot result.
+//! Each public call checks what it is lent, refuses, or hands on to one worker; `decode` is the one
+//! map from page and register to word, for writes and reads alike.
 #![tactic(auto)]
 
 ghost use Rattle.std.specs.Prelude.{◌≡◌, true, ◌<◌, get_or, set};
@@ -15,27 +15,28 @@ use answer::Answer;
 // The greatest byte address: byte 3 of register 15.
 const ADDRESS_LIMIT: u32 = 63;
 
-// What a page and a register number name.
-#[derive(Clone, Copy)]
+/// What a page and a register number name.
+#[derive(Clone, Copy, Debug, PartialEq, Eq)]
 pub enum Register {
-    // A word of the record that reads and writes.
+    /// A word of the record that reads and writes.
     Word(usize),
-    // A channel sum, which is written only.
+    /// A channel sum, which is written only.
     Sum(usize),
-    // The pot result and the interrupt vector, which the host only reads.
+    /// The pot result and the interrupt vector, which the host only reads.
     Par,
     Irqv,
     Nothing,
 }
 
-// What a read gives.
-#[derive(Clone, Copy)]
+/// What a read gives.
+#[derive(Clone, Copy, Debug, PartialEq, Eq)]
 pub struct Got {
     pub answer: Answer,
     pub byte: u8,
 }
 
-// A byte from the host. The registers are wider than its bus: byte 3 of a register sends off the bytes gathered before it.
+/// A byte from the host. The registers are wider than its bus: byte 3 of a register sends off the
+/// bytes gathered before it.
 pub fn write(m: &mut [u32], address: u32, value: u8) -> Answer
     ensures { Writes m.old address value result m.new }
 {
@@ -47,7 +48,8 @@ pub fn write(m: &mut [u32], address: u32, value: u8) -> Answer
     Answer::Done
 }
 
-// A byte for the host. Byte 0 takes the register whole, so that the bytes after it belong together.
+/// A byte for the host. Byte 0 takes the register whole, so that the bytes after it belong
+/// together.
 pub fn read(m: &mut [u32], address: u32) -> Got
     ensures { Reads m.old address result.answer result.byte m.new }
 {
@@ -62,7 +64,7 @@ pub fn read(m: &mut [u32], address: u32) -> Got
     }
 }
 
-// A conversion result, for the host to read.
+/// A conversion result, for the host to read.
 pub fn set_pot(m: &mut [u32], value: u32) -> Answer
     ensures { SetsPot m.old value result m.new }
 {
@@ -161,7 +163,8 @@ fn decode(page: u32, r: u32) -> Register
     }
 }
 
-// x, cut to the bits kept, in a register that can be written. The others take nothing: their writes end in the latch.
+// x, cut to the bits kept, in a register that can be written. The others take nothing: their writes
+// end in the latch.
 fn store(m: &mut [u32], register: Register, x: u32)
     requires m_value { valid m.old ≡ true }
     requires inside { Inside register }
@@ -178,7 +181,8 @@ fn store(m: &mut [u32], register: Register, x: u32)
     }
 }
 
-// x, cut to the bits kept, in word i. Where that is a control register, its flag goes into the mask too.
+// x, cut to the bits kept, in word i. Where that is a control register, its flag goes into the mask
+// too.
 fn store_word(m: &mut [u32], i: usize, x: u32)
     requires m_value { valid m.old ≡ true }
     requires i_bound { i < WAIT_MASK }
@@ -194,7 +198,8 @@ fn store_word(m: &mut [u32], i: usize, x: u32)
     }
 }
 
-// Byte 0 of a register is read: the register goes to the read latch. The pot result reads as all ones until the next one is there.
+// Byte 0 of a register is read: the register goes to the read latch. The pot result reads as all
+// ones until the next one is there.
 fn load(m: &mut [u32], register: Register)
     requires m_value { valid m.old ≡ true }
     requires inside { Inside register }
@@ -221,7 +226,8 @@ fn load(m: &mut [u32], register: Register)
     }
 }
 
-// The vector was read: the voice that it names loses its interrupt flag, in the mask too, and the vector is free for the next.
+// The vector was read: the voice that it names loses its interrupt flag, in the mask too, and the
+// vector is free for the next.
 fn acknowledge(m: &mut [u32])
     requires { valid m.old ≡ true }
     ensures { m.new ≡ acknowledged m.old }

@@ -5,7 +5,7 @@ use mathlib.Core.List.{List}
 use Prim.Native.Nat.{ℕ}
 use lib.IntN.{ℤ}
 use lib.ListN.{get_or}
-use Rattle.answer.specs.declared.Answer.TheVariants.{Done}
+use Rattle.answer.specs.Answer.{Done}
 use Rattle.machine.specs.Words.{ACTV}
 use Rattle.machine.proofs.Valid.{Sound}
 use Rattle.frame.specs.Frame.{played}

@@ -8,7 +8,7 @@ use native.Mathlib.Omega.{arith}
 use lib.Dec.{lit<, lit≤}
 use lib.IntN.{ℤ}
 use lib.ListN.{get_or}
-use Rattle.answer.specs.declared.Answer.TheVariants.{Done}
+use Rattle.answer.specs.Answer.{Done}
 use Rattle.machine.specs.Words.{PAGE, ACTV, WRITE_LATCH}
 use Rattle.machine.specs.Voices.{voice_at}
 use Rattle.machine.proofs.Valid.{Sound, sound}

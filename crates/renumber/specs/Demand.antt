@@ -3,8 +3,7 @@
 -- In order: renumberings; machines that match; whole register writes; the calls between two frames; a trace of calls with frames; two
 -- traces that are alike; what holds along them; the theorem. Assumes nothing.
 use Rattle.std.specs.Prelude.{◌≡◌, ◌≢◌, true, false, cond, List, [], ◌∷◌, ◌++◌, ℕ, ◌+◌, ◌*◌, ◌≤◌, ◌<◌, eqb, ℤ, length, get_or}
-use Rattle.answer.specs.Answer.{is_done}
-use Rattle.answer.specs.declared.Answer.TheVariants.{Done}
+use Rattle.answer.specs.Answer.{Done, is_done}
 use Rattle.control.specs.Control.{bit_of, IRQ}
 use Rattle.machine.specs.Words.{VOICES, VOICE_WORDS, CR, PAGE, ACTV, SLOW, SUMS, OUTPUT_VALUES, voice_word, valid}
 use Rattle.machine.specs.Voices.{voice_at}

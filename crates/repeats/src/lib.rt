@@ -1,9 +1,11 @@
-// Commands of four bytes, of which some repeat others, and the same commands in full.
-// A command is a kind, a number of two bytes, the high one first, and one byte. Kind 7 is a repeat: as many commands as its byte says, once more,
-// from the one on that stands, in full, as many before it as its number says. One that goes back past the first command, or that asks for more commands
-// than it goes back by, stands for itself; so does every command of another kind, of which nothing is known here.
-//
-// In order: a repeat; how many bytes there are in full; the commands in full.
+//! Commands of four bytes, of which some repeat others, and the same commands in full.
+//! A command is a kind, a number of two bytes, the high one first, and one byte. Kind 7 is a
+//! repeat: as many commands as its byte says, once more, from the one on that stands, in full, as
+//! many before it as its number says. One that goes back past the first command, or that asks for
+//! more commands than it goes back by, stands for itself; so does every command of another kind, of
+//! which nothing is known here.
+//!
+//! In order: a repeat; how many bytes there are in full; the commands in full.
 #![tactic(auto)]
 
 ghost use Rattle.std.specs.Prelude.{◌≡◌, cond, ◌+◌, ◌≤◌, length, take};
@@ -44,7 +46,7 @@ fn repeats_at(commands: &[u8], at: usize, before: usize) -> bool
 
 // ---- how many bytes there are in full
 
-// Of no more bytes than a score has, so that the sum does not wrap.
+/// Of no more bytes than a score has, so that the sum does not wrap.
 pub fn full_bytes(commands: &[u8]) -> usize
     requires { length commands.now ≤ 65536 }
     ensures { result ≡ length (in_full commands.now) }
@@ -70,7 +72,7 @@ fn stands_bytes(commands: &[u8], at: usize, before: usize) -> usize
 
 // ---- the commands in full
 
-// Puts them at the start of `full`, and answers how many bytes they are.
+/// Puts them at the start of `full`, and answers how many bytes they are.
 pub fn put_in_full(commands: &[u8], full: &mut [u8]) -> usize
     requires { length (in_full commands.now) ≤ length full.old }
     ensures value { result ≡ length (in_full commands.now) }

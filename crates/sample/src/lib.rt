@@ -1,5 +1,5 @@
-// The sample of a voice: the two words that it fetches from sample memory, each with whether it was there; how many were missing; what a word
-// stands for, and the value between two.
+//! The sample of a voice: the two words that it fetches from sample memory, each with whether it
+//! was there; how many were missing; what a word stands for, and the value between two.
 #![tactic(auto)]
 
 ghost use Rattle.std.specs.Prelude.{◌≡◌, cond, ◌+◌, ◌*◌, ◌^◌, ◌<◌, length};
@@ -8,30 +8,31 @@ ghost use Rattle.codes.specs.Codes.{Expands};
 ghost use Rattle.sample.specs.Sample.{word_at, fetched, missing_of, sample_of, fraction, interpolated, BANK_WORDS as Sample-as-BANK_WORDS};
 ghost use Rattle.sample.specs.Lasts.{last_of, Lasts};
 
-// How many words a bank has, and how many the memory may have at most: four banks.
+/// How many words a bank has, and how many the memory may have at most: four banks.
 pub const BANK_WORDS: u32 = 2097152;
 
 pub const MOST_MEMORY_WORDS: usize = 4 * 2097152;
 
-// What one sample is in START, END and ACCUM.
+/// What one sample is in START, END and ACCUM.
 pub const WHOLE_SAMPLE: u32 = 2048;
 
-// A word that was asked for, 0 where it was not there, and whether it was.
-#[derive(Clone, Copy)]
+/// A word that was asked for, 0 where it was not there, and whether it was.
+#[derive(Clone, Copy, Debug, PartialEq, Eq)]
 pub struct MemoryWord {
     pub bits: u16,
     pub there: bool,
 }
 
-// The two words of a fetch.
-#[derive(Clone, Copy)]
+/// The two words of a fetch.
+#[derive(Clone, Copy, Debug, PartialEq, Eq)]
 pub struct Words {
     pub first: MemoryWord,
     pub second: MemoryWord,
 }
 
-// The value between the two samples that the voice is at, of 18 bits. How many of their words are missing is added to `missing`. They are
-// counted before it is asked what they stand for: then the compiler counts nothing on the way of a fetch that has both by one test.
+/// The value between the two samples that the voice is at, of 18 bits. How many of their words are
+/// missing is added to `missing`. They are counted before it is asked what they stand for: then the
+/// compiler counts nothing on the way of a fetch that has both by one test.
 pub fn interpolate(
     memory: &[u16],
     lasts: &[usize; 4],
@@ -65,7 +66,7 @@ fn tally(there: bool, missing: &mut u32)
     }
 }
 
-// The two words that the voice is at.
+/// The two words that the voice is at.
 pub fn fetch(memory: &[u16], lasts: &[usize; 4], cr: u32, accum: u32) -> Words
     requires lasts { Lasts (length memory.now) lasts.now }
     requires cr_bound { cr < 65536 }
@@ -91,7 +92,8 @@ fn place(bank: u32, i: u32) -> usize
     (bank * BANK_WORDS + i) as usize
 }
 
-// The words at two places. Below the bank's last word the second is the next, and both are lent: one test for all three.
+// The words at two places. Below the bank's last word the second is the next, and both are lent:
+// one test for all three.
 fn words_at(memory: &[u16], last: usize, at: usize, next: usize) -> Words
     requires { at < last → (next ≡ at + 1) × (next < length memory.now) }
     ensures { result ≡ record { first = word_at memory.now at; second = word_at memory.now next } }
@@ -143,8 +145,8 @@ fn sample_of(table: &[i16; 256], cr: u32, w: u16) -> i32
     }
 }
 
-// The value between two samples, f of 512 parts on from the first. f stands in ACCUM from bit 2 on, so where f is multiplied by 4 the compiler
-// masks ACCUM and shifts nothing.
+// The value between two samples, f of 512 parts on from the first. f stands in ACCUM from bit 2 on,
+// so where f is multiplied by 4 the compiler masks ACCUM and shifts nothing.
 fn blend(f: u32, s1: i32, s2: i32) -> i32
     requires f_bound { f < 512 }
     requires bits { Bits 16 s1 }
@@ -154,7 +156,7 @@ fn blend(f: u32, s1: i32, s2: i32) -> i32
     4 * s1 + ((4 * f as i32 * (s2 - s1)) >> 9)
 }
 
-// Of each bank the last word that is lent, where n words of memory are: made once for all fetches.
+/// Of each bank the last word that is lent, where n words of memory are: made once for all fetches.
 pub fn lasts(n: usize) -> [usize; 4]
     ensures { Lasts n result }
 {

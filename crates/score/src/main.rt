@@ -1,9 +1,12 @@
-// Plays a score on one machine and prints what each call answers. What a score is, and which calls it asks for, is the crate `scores`.
-//
-// Each call gives one line: the answer's number, for a read also the byte, for the question which voices wait also their mask, for a frame also how
-// many words were missing and the twelve values. A command, in full, that makes no call gives the line "no call". A last command that is cut short is
-// left out, and so is all that stands after 65,536 bytes; a score whose sample memory is cut short, or that has more than 65,536 commands in full,
-// gives no line. A read or a write that fails ends the program with its error; what was written until then stands.
+//! Plays a score on one machine and prints what each call answers. What a score is, and which calls
+//! it asks for, is the crate `scores`.
+//!
+//! Each call gives one line: the answer's number, for a read also the byte, for the question which
+//! voices wait also their mask, for a frame also how many words were missing and the twelve values.
+//! A command, in full, that makes no call gives the line "no call". A last command that is cut
+//! short is left out, and so is all that stands after 65,536 bytes; a score whose sample memory is
+//! cut short, or that has more than 65,536 commands in full, gives no line. A read or a write that
+//! fails ends the program with its error; what was written until then stands.
 #![tactic(auto)]
 
 ghost use Rattle.std.specs.Prelude.{◌≡◌, ◌≤◌, nat_abs, length};
@@ -92,7 +95,8 @@ fn say_value(rt: &impl Print, z: i32) -> io::Result<()> {
     print!(rt; " {digits}")
 }
 
-// What a number's digits say. The least number of 32 bits has none above it to match, so the sign is turned in 64.
+// What a number's digits say. The least number of 32 bits has none above it to match, so the sign
+// is turned in 64.
 fn magnitude(z: i32) -> u64
     ensures { result ≡ nat_abs z }
 {

@@ -10,8 +10,7 @@ use lib.ListN.{length, get_or, take-append-drop}
 use Rattle.numbers.proofs.Tests.{split}
 use Rattle.layout.specs.Parts.{with_part}
 use Rattle.layout.specs.Bytes.{little_bytes}
-use Rattle.answer.specs.Answer.{is_done}
-use Rattle.answer.specs.declared.Answer.{Answer}
+use Rattle.answer.specs.Answer.{Answer, is_done}
 use Rattle.answer.proofs.Refusals.{is_done_lem}
 use Rattle.machine.specs.Words.{OUTPUT_VALUES}
 use Rattle.frame.specs.Frame.{played, frame_answer, frame_output}

@@ -3,8 +3,7 @@
 -- to; what some do; all of them, in parts. Assumes nothing.
 use Rattle.std.specs.Prelude.{ℕ, ◌+◌, ◌*◌, ◌/◌, ◌-◌, ◌≤◌, ◌<◌, ◌≡◌, Bool, true, false, cond, List, [], ◌∷◌, ◌++◌, length, take, drop, replicate}
 use Rattle.layout.specs.Parts.{with_part}
-use Rattle.answer.specs.Answer.{is_done}
-use Rattle.answer.specs.declared.Answer.{Answer}
+use Rattle.answer.specs.Answer.{Answer, is_done}
 use Rattle.machine.specs.Words.{RECORD_WORDS}
 use Rattle.calls.specs.Calls.{Call, Reset, Write, Read, SetPot, Waiting, Frame, answer_to, after, output_from, run, answers, outputs}
 use Rattle.repeats.specs.Repeats.{command_count}

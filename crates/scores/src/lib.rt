@@ -1,12 +1,14 @@
-// A score: sample memory, and commands that ask for calls on one machine; and what is heard of it.
-// A score's first 8,192 bytes are 4,096 words of sample memory, the high byte first. Then come commands of four bytes: a kind, a number of two bytes,
-// the high byte first, and one byte.
-//
-// kind 0: reset. 1: write the byte at the address that the number gives. 2: read there. 3: set the pot result to the number. 4: run a frame.
-// 5: ask which voices wait. 6: run as many frames as the number says. 7: commands that stand before it, once more (`repeats`).
-//
-// In order: a command; the memory; how many frames there are; whether a score is good; what is heard of a frame; a score played. But for `fill` and
-// `judge`, which take a score, all is of commands in full, which `repeats::put_in_full` gives.
+//! A score: sample memory, and commands that ask for calls on one machine; and what is heard of it.
+//! A score's first 8,192 bytes are 4,096 words of sample memory, the high byte first. Then come
+//! commands of four bytes: a kind, a number of two bytes, the high byte first, and one byte.
+//!
+//! kind 0: reset. 1: write the byte at the address that the number gives. 2: read there. 3: set the
+//! pot result to the number. 4: run a frame. 5: ask which voices wait. 6: run as many frames as the
+//! number says. 7: commands that stand before it, once more (`repeats`).
+//!
+//! In order: a command; the memory; how many frames there are; whether a score is good; what is
+//! heard of a frame; a score played. But for `fill` and `judge`, which take a score, all is of
+//! commands in full, which `repeats::put_in_full` gives.
 #![tactic(auto)]
 
 ghost use Rattle.std.specs.Prelude.{◌≡◌, ◌+◌, ◌*◌, ◌/◌, ◌≤◌, ◌<◌, ◌^◌, length, ◌+ℤ◌, nat_abs, cond};
@@ -32,30 +34,31 @@ pub const MEMORY_BYTES: usize = 8192;
 
 pub const MOST_BYTES: usize = 65536;
 
-// Of 65,536 commands in full.
+/// Of 65,536 commands in full.
 pub const MOST_FULL_BYTES: usize = 262144;
 
 // Kinds 0 to 6 are calls, and 7 repeats commands.
 const KINDS: u8 = 8;
 
-// Each word of the record that a score is played on: it is not valid, so that all that is asked before a reset is refused.
+/// Each word of the record that a score is played on: it is not valid, so that all that is asked
+/// before a reset is refused.
 pub const FIRST_WORD: u32 = 4294967295;
 
-// Of what is heard of a frame, left and right.
+/// Of what is heard of a frame, left and right.
 pub const SAMPLE_BYTES: usize = 4;
 
-// Four bytes each are at most what a WAVE file holds.
+/// Four bytes each are at most what a WAVE file holds.
 pub const MOST_FRAMES: u64 = 1073741814;
 
 // ---- a command: a call, and how many times it is made
 
-#[derive(Clone, Copy)]
+#[derive(Clone, Copy, Debug, PartialEq, Eq)]
 pub struct Command {
     pub ask: Ask,
     pub times: u32,
 }
 
-// The command whose bytes begin at `at`.
+/// The command whose bytes begin at `at`.
 pub fn command_at(commands: &[u8], at: usize) -> Command
     requires { at + COMMAND_BYTES ≤ length commands.now }
     ensures { result ≡ command_at commands.now at }
@@ -104,7 +107,7 @@ fn is_frame(ask: Ask) -> bool
 
 // ---- the memory
 
-// The sample memory, from the bytes at the score's start.
+/// The sample memory, from the bytes at the score's start.
 pub fn fill(memory: &mut [u16], score: &[u8])
     requires { 2 * length memory.old ≤ length score.now }
     ensures { Filled (length memory.old) score.now memory.new }
@@ -136,26 +139,27 @@ fn command_frames(c: Command) -> u64
 
 // ---- whether a score is good
 
-#[derive(Clone, Copy)]
+#[derive(Clone, Copy, Debug, PartialEq, Eq)]
 pub enum Verdict {
     Good,
-    // It has more bytes than a score may have.
+    /// It has more bytes than a score may have.
     TooLong,
-    // It ends before its sample memory does.
+    /// It ends before its sample memory does.
     NoMemory,
-    // Its last command has fewer than four bytes.
+    /// Its last command has fewer than four bytes.
     Cut,
-    // In full it has more commands than a score may have.
+    /// In full it has more commands than a score may have.
     TooManyCommands,
-    // A command is of a kind that there is not.
+    /// A command is of a kind that there is not.
     Unknown,
-    // A repeat goes back past the first command, or asks for more than it goes back by.
+    /// A repeat goes back past the first command, or asks for more than it goes back by.
     NotThere,
-    // A WAVE file does not hold them.
+    /// A WAVE file does not hold them.
     TooManyFrames,
 }
 
-// Where the score is good, its commands stand in full at the start of `full` then; else what stands there says nothing.
+/// Where the score is good, its commands stand in full at the start of `full` then; else what
+/// stands there says nothing.
 pub fn judge(score: &[u8], full: &mut [u8]) -> Verdict
     requires { length full.old ≡ MOST_FULL_BYTES }
     ensures value { result ≡ verdict_of score.now }
@@ -225,7 +229,7 @@ fn sample_bytes(out: &[i32]) -> [u8; 4]
     [l[0], l[1], r[0], r[1]]
 }
 
-// The loudest sample of a sound, or what was the loudest before.
+/// The loudest sample of a sound, or what was the loudest before.
 pub fn loudest(sound: &[u8], before: u32) -> u32
     ensures { result ≡ loudest_of sound.now (length sound.now / 2) before }
 {
@@ -253,7 +257,7 @@ fn magnitude(w: u16) -> u32
 // ---- a score played
 
 // What one call comes to: 1 where it was a frame, and 1 where it was refused.
-#[derive(Clone, Copy)]
+#[derive(Clone, Copy, Debug, PartialEq, Eq)]
 struct Made {
     pub frames: usize,
     pub refused: usize,
@@ -290,8 +294,9 @@ fn refusal(a: Answer) -> usize
     if answer::number(a) == 0 { 0 } else { 1 }
 }
 
-// Where a score stands after some calls: its command, and how many of that one's calls are made; and what those calls came to.
-#[derive(Clone, Copy)]
+/// Where a score stands after some calls: its command, and how many of that one's calls are made;
+/// and what those calls came to.
+#[derive(Clone, Copy, Debug, PartialEq, Eq)]
 pub struct Played {
     pub command: usize,
     pub made: u32,
@@ -299,7 +304,8 @@ pub struct Played {
     pub refused: usize,
 }
 
-// Plays on from a command of which so many calls are made: as many calls as the sound has room for, if each were a frame.
+/// Plays on from a command of which so many calls are made: as many calls as the sound has room
+/// for, if each were a frame.
 pub fn play(
     m: &mut [u32],
     memory: &[u16],

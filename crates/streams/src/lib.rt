@@ -1,6 +1,6 @@
-// A lent buffer filled from a reader, and lent bytes written to a writer; and what an error leaves
-// of either. An error is that of the reader's own `read` or the writer's own `write`, also where a
-// signal interrupts it, or that the writer takes no more.
+//! A lent buffer filled from a reader, and lent bytes written to a writer; and what an error leaves
+//! of either. An error is that of the reader's own `read` or the writer's own `write`, also where a
+//! signal interrupts it, or that the writer takes no more.
 #![tactic(auto)]
 
 ghost use Rattle.std.specs.Prelude.{◌<◌, ◌≤◌, length, take, IfOk, OnOk, OnErr};
@@ -10,8 +10,8 @@ ghost use Rattle.streams.specs.Parts.{AppendsPart, ConsumesPart};
 use std::io;
 use std::io::{ErrorKind, Read, Write};
 
-// Reads until the buffer is full or the input ends, and answers how many bytes stand at the
-// buffer's start.
+/// Reads until the buffer is full or the input ends, and answers how many bytes stand at the
+/// buffer's start.
 pub fn read_full<R: Read>(reader: &mut R, buffer: &mut [u8]) -> io::Result<usize>
     ensures bound { IfOk result (λ n. n ≤ length buffer.new) }
     ensures bytes { IfOk result (λ n.
@@ -31,7 +31,7 @@ pub fn read_full<R: Read>(reader: &mut R, buffer: &mut [u8]) -> io::Result<usize
     Ok(at)
 }
 
-// Writes all the bytes. (The standard `write_all` does not say what an error leaves.)
+/// Writes all the bytes. (The standard `write_all` does not say what an error leaves.)
 pub fn write_full<W: Write>(writer: &mut W, bytes: &[u8]) -> io::Result<()>
     ensures ok { OnOk result (Appends (W.contents writer.old) (W.contents writer.new) bytes.now) }
     ensures err { OnErr result

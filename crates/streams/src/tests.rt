@@ -1,5 +1,5 @@
-// That either call succeeds where a reader gives, or a writer takes, one byte at a time, and that
-// the error of one that fails on its way is the error of the call, with what was done until then.
+//! That either call succeeds where a reader gives, or a writer takes, one byte at a time, and that
+//! the error of one that fails on its way is the error of the call, with what was done until then.
 use crate::{read_full, write_full};
 use std::io;
 use std::io::{ErrorKind, Read, Write};

@@ -1,6 +1,7 @@
-// One turn of a voice on its own twenty words, which are lent as a part of the record: sample, filters, volume, address and ramps, as the
-// control register says. The turn does not know the voice's number, so which voice plays cannot be heard in it.
-// The words are read and stored where they stand: no copy of the voice is made.
+//! One turn of a voice on its own twenty words, which are lent as a part of the record: sample,
+//! filters, volume, address and ramps, as the control register says. The turn does not know the
+//! voice's number, so which voice plays cannot be heard in it.
+//! The words are read and stored where they stand: no copy of the voice is made.
 #![tactic(auto)]
 
 ghost use Rattle.std.specs.Prelude.{◌≡◌, cond, ◌+◌, ◌^◌, ◌<◌, pos, length, get_or};
@@ -18,16 +19,16 @@ ghost use Rattle.voice.specs.Takes.{after_step, after_ramps, Passes, TakesTurn};
 
 use filter::Poles;
 
-// What a turn adds to the left and right sums of a channel; channel 7 is none.
-#[derive(Clone, Copy)]
+/// What a turn adds to the left and right sums of a channel; channel 7 is none.
+#[derive(Clone, Copy, Debug, PartialEq, Eq)]
 pub struct Addend {
     pub channel: u32,
     pub left: i32,
     pub right: i32,
 }
 
-// A turn of the voice whose words are w, at the slow-ramp counter slow, over the lent sample memory and the table of codes. How many words of
-// that memory it misses is added to `missing`.
+/// A turn of the voice whose words are w, at the slow-ramp counter slow, over the lent sample
+/// memory and the table of codes. How many words of that memory it misses is added to `missing`.
 pub fn turn(
     w: &mut [u32],
     slow: u32,
@@ -66,7 +67,8 @@ pub fn turn(
     }
 }
 
-// What goes into the filters: the sample that the voice is at, or 0 where it is stopped; such a voice asks for no word, and misses none.
+// What goes into the filters: the sample that the voice is at, or 0 where it is stopped; such a
+// voice asks for no word, and misses none.
 fn input(
     w: &[u32],
     cr: u32,
@@ -89,7 +91,8 @@ fn input(
     sample::interpolate(memory, lasts, table, cr, w[machine::ACCUM], missing)
 }
 
-// The sample x passes the filters; the new output of pole 4. The old outputs move back first, so that no copy of them is kept.
+// The sample x passes the filters; the new output of pole 4. The old outputs move back first, so
+// that no copy of them is kept.
 fn pass(w: &mut [u32], cr: u32, x: i32) -> i32
     requires w_len { length w.old ≡ VOICE_WORDS }
     requires ranges { Ranges (voice_of w.old) }
@@ -121,7 +124,8 @@ fn last_outputs(w: &[u32]) -> Poles
     }
 }
 
-// ACCUM goes on: forward to END, in reverse to START. Where it does not pass that loop point nothing else changes, whatever the loop mode.
+// ACCUM goes on: forward to END, in reverse to START. Where it does not pass that loop point
+// nothing else changes, whatever the loop mode.
 fn step(w: &mut [u32], cr: u32)
     requires w_len { length w.old ≡ VOICE_WORDS }
     requires cr_value { (cr ≡ get_or w.old CR 0) × (cr < 65536) }

@@ -1,8 +1,9 @@
-// What a WAVE file holds: its format, its data, its first loop; or that it is broken.
-// In order: the file, by one pass over its chunks; what is kept of them; the format; the sampler. No byte of the file is copied: what is found is
-// places in it.
-//
-// Time: a round of the pass goes on by eight bytes or more, or is the last, so a file of 65,536 bytes has at most 8,191. There is no other loop.
+//! What a WAVE file holds: its format, its data, its first loop; or that it is broken.
+//! In order: the file, by one pass over its chunks; what is kept of them; the format; the sampler.
+//! No byte of the file is copied: what is found is places in it.
+//!
+//! Time: a round of the pass goes on by eight bytes or more, or is the last, so a file of 65,536
+//! bytes has at most 8,191. There is no other loop.
 #![tactic(auto)]
 
 ghost use Rattle.std.specs.Prelude.{◌≡◌, false, [], ◌≤◌, length};
@@ -22,31 +23,32 @@ const LOOP_BYTES: usize = 24;
 // Where a sampler chunk has the number of its loops.
 const LOOP_COUNT: usize = 28;
 
-// The first loop of a file.
-#[derive(Clone, Copy)]
+/// The first loop of a file.
+#[derive(Clone, Copy, Debug, PartialEq, Eq)]
 pub enum Loop {
     Absent,
-    // Its type (`type` is a word of the language), its first sample and its last.
+    /// Its type (`type` is a word of the language), its first sample and its last.
     Present { form: u32, start: u32, last: u32 },
 }
 
-// What is kept of the chunks of a name: how many they are, where 2 stands for more as well, and the first.
-#[derive(Clone, Copy)]
+/// What is kept of the chunks of a name: how many they are, where 2 stands for more as well, and
+/// the first.
+#[derive(Clone, Copy, Debug, PartialEq, Eq)]
 pub struct Kept {
     pub times: usize,
     pub first: Chunk,
 }
 
-// What one pass keeps. (The data chunk is `pcm`.)
-#[derive(Clone, Copy)]
+/// What one pass keeps. (The data chunk is `pcm`.)
+#[derive(Clone, Copy, Debug, PartialEq, Eq)]
 pub struct Found {
     pub format: Kept,
     pub pcm: Kept,
     pub sampler: Kept,
 }
 
-// What a file comes to.
-#[derive(Clone, Copy)]
+/// What a file comes to.
+#[derive(Clone, Copy, Debug, PartialEq, Eq)]
 pub enum Parsed {
     Broken,
     Unbroken(Found),
@@ -157,7 +159,7 @@ fn keep(name: u32, c: Chunk, k: Kept) -> Kept
     Kept { times: 2, first }
 }
 
-// Whether format and data are not there just once each.
+/// Whether format and data are not there just once each.
 pub fn is_miscounted(f: Found) -> bool
     ensures { result ≡ found_miscounted f }
 {

@@ -1,7 +1,9 @@
-// Imports each file that its arguments name, and prints what comes of it.
-// Every import is lent a sample memory of 512 words that all hold the same number, and puts its samples from word 16 on. It gives a line: the file's
-// name, all that is answered, and how many words outside the samples' part are not as they were; and, where there are samples, a second line with
-// their words. A read or a write that fails ends the program with its error; what was written until then stands.
+//! Imports each file that its arguments name, and prints what comes of it.
+//! Every import is lent a sample memory of 512 words that all hold the same number, and puts its
+//! samples from word 16 on. It gives a line: the file's name, all that is answered, and how many
+//! words outside the samples' part are not as they were; and, where there are samples, a second
+//! line with their words. A read or a write that fails ends the program with its error; what was
+//! written until then stands.
 #![tactic(auto)]
 
 ghost use Rattle.std.specs.Prelude.{◌+◌, ◌≤◌, length};

@@ -1,16 +1,17 @@
-// What a WAVE file begins with, in three pieces, which follow each other: its own head, the format chunk, and the head of the data chunk.
+//! What a WAVE file begins with, in three pieces, which follow each other: its own head, the format
+//! chunk, and the head of the data chunk.
 #![tactic(auto)]
 
 ghost use Rattle.std.specs.Prelude.{◌≡◌, ◌*◌, ◌≤◌, ◌<◌};
 ghost use Rattle.wave_head.specs.Head.{riff_head, format_chunk, data_head};
 
-// The chip's frames a second, with all voices active and a clock of 16 MHz.
+/// The chip's frames a second, with all voices active and a clock of 16 MHz.
 pub const RATE: u32 = 31250;
 
-// The bytes of the format chunk and of the data chunk's head.
+/// The bytes of the format chunk and of the data chunk's head.
 pub const CHUNKS_BYTES: u32 = 32;
 
-// Before chunks that have so many bytes in all.
+/// Before chunks that have so many bytes in all.
 pub fn riff_head(bytes: u32) -> [u8; 12]
     requires { bytes ≤ 4294967291 }
     ensures { result ≡ riff_head bytes }
@@ -21,7 +22,7 @@ pub fn riff_head(bytes: u32) -> [u8; 12]
     ]
 }
 
-// PCM of 16 bits: so many channels, and samples a second.
+/// PCM of 16 bits: so many channels, and samples a second.
 pub fn format_chunk(channels: u16, rate: u32) -> [u8; 24]
     requires channels_bound { channels < 32768 }
     requires rate_bound { 2 * channels * rate < 4294967296 }
@@ -37,7 +38,7 @@ pub fn format_chunk(channels: u16, rate: u32) -> [u8; 24]
     ]
 }
 
-// Before so many bytes of sound.
+/// Before so many bytes of sound.
 pub fn data_head(bytes: u32) -> [u8; 8]
     ensures { result ≡ data_head bytes }
 {

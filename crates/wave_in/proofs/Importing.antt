@@ -10,8 +10,7 @@ use borrow.Author.Tests.{ltb-false, leb-false, eqb-false}
 use lib.Dec.{leb, ltb, eqb}
 use lib.ListN.{length}
 use Rattle.numbers.proofs.Tests.{neither}
-use Rattle.answer.specs.Answer.{is_done}
-use Rattle.answer.specs.declared.Answer.{Answer}
+use Rattle.answer.specs.Answer.{Answer, is_done}
 use Rattle.answer.proofs.Refusals.{none_holds}
 use Rattle.machine.specs.Words.{voice_range, END}
 use Rattle.layout.specs.Parts.{with_part}

@@ -8,7 +8,7 @@ use native.Mathlib.Omega.{arith}
 use borrow.Author.Tests.{lt-ltb, le-ltb, not-false}
 use lib.Dec.{eqb}
 use Rattle.answer.specs.Answer.{first_refusal}
-use Rattle.answer.specs.declared.Answer.TheVariants.{MemoryLength, FileBroken, ChunkCount, SampleFormat, LoopInvalid, NoPlace}
+use Rattle.answer.specs.declared.Refusal.TheVariants.{MemoryLength, FileBroken, ChunkCount, SampleFormat, LoopInvalid, NoPlace}
 use Rattle.sample.specs.Sample.{MOST_MEMORY_WORDS}
 use Rattle.chunks.specs.Chunks.{chunks_of, named, FORMAT, DATA, SAMPLER}
 use Rattle.chunks.specs.declared.Chunk.{Chunk}

@@ -1,9 +1,9 @@
 -- What importing a WAVE file promises.
 -- In order: the refusals, each by itself, and their order; what the call answers; the memory afterwards; the promise. Assumes nothing.
 use Rattle.std.specs.Prelude.{◌≡◌, ℕ, ◌+◌, ◌%◌, Bool, false, cond, not, ◌&&◌, ◌||◌, List, [], ◌∷◌, leb, ltb, eqb, length}
-use Rattle.answer.specs.Answer.{is_done, first_refusal}
-use Rattle.answer.specs.declared.Answer.{Answer}
-use Rattle.answer.specs.declared.Answer.TheVariants.{Done, MemoryLength, FileBroken, ChunkCount, SampleFormat, LoopInvalid, NoPlace}
+use Rattle.answer.specs.Answer.{Answer, Done, first_refusal, is_done}
+use Rattle.answer.specs.declared.Refusal.{Refusal}
+use Rattle.answer.specs.declared.Refusal.TheVariants.{MemoryLength, FileBroken, ChunkCount, SampleFormat, LoopInvalid, NoPlace}
 use Rattle.machine.specs.Words.{voice_range, END}
 use Rattle.layout.specs.Parts.{with_part}
 use Rattle.sample.specs.Sample.{BANK_WORDS, too_many_words}
@@ -38,7 +38,7 @@ unfoldable pub has_no_place : ℕ → ℕ → ℕ → Loop → Bool
 has_no_place room word count l = ltb room (word + count) || (ltb BANK_WORDS (word % BANK_WORDS + count) || leb (voice_range END) (end_of word l))
 
 -- all of them, in their order
-abbrev pub import_tests : List ℕ → ℕ → ℕ → List (Bool × Answer)
+abbrev pub import_tests : List ℕ → ℕ → ℕ → List (Bool × Refusal)
 import_tests file room word =
     let cs = chunks_of file in
     let count = count_of (data_of cs) in

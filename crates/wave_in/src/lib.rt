@@ -1,8 +1,11 @@
-// Imports a WAVE file: its samples go into a part of the lent sample memory, and its loop is answered as registers.
-// In order: the call; where the samples go, or why the file is refused; the loop as registers; the refusals' tests; the samples. The part of the
-// memory that the samples go into is lent to the function that copies them, which sees no other word.
-//
-// Time: a round of the copy takes two bytes, so there are at most 32,746, beside the rounds over the file's chunks. There is no other loop.
+//! Imports a WAVE file: its samples go into a part of the lent sample memory, and its loop is
+//! answered as registers.
+//! In order: the call; where the samples go, or why the file is refused; the loop as registers; the
+//! refusals' tests; the samples. The part of the memory that the samples go into is lent to the
+//! function that copies them, which sees no other word.
+//!
+//! Time: a round of the copy takes two bytes, so there are at most 32,746, beside the rounds over
+//! the file's chunks. There is no other loop.
 #![tactic(auto)]
 
 ghost use Rattle.std.specs.Prelude.{◌≡◌, ◌*◌, ◌^◌, ◌≤◌, ◌<◌, length};
@@ -18,24 +21,26 @@ use answer::Answer;
 use chunks::Chunk;
 use wave::{Loop, Parsed};
 
-// The greatest number of 32 bits. END is a number of whole samples, so it fits its register exactly where it is not greater.
+// The greatest number of 32 bits. END is a number of whole samples, so it fits its register exactly
+// where it is not greater.
 const GREATEST_REGISTER: usize = 4294967295;
 
-// What an import answers. In a refusal all but the answer is 0; without a loop START, END and the bits are.
-#[derive(Clone, Copy)]
+/// What an import answers. In a refusal all but the answer is 0; without a loop START, END and the
+/// bits are.
+#[derive(Clone, Copy, Debug, PartialEq, Eq)]
 pub struct Imported {
     pub answer: Answer,
-    // START and END, within the bank.
+    /// START and END, within the bank.
     pub start: u32,
     pub end: u32,
-    // The loop bits BLE, LPE and DIR at their places in CR.
+    /// The loop bits BLE, LPE and DIR at their places in CR.
     pub bits: u32,
-    // How many samples were written.
+    /// How many samples were written.
     pub samples: u32,
 }
 
-// What an import comes to: why it is refused, or the samples' chunk and the loop.
-#[derive(Clone, Copy)]
+/// What an import comes to: why it is refused, or the samples' chunk and the loop.
+#[derive(Clone, Copy, Debug, PartialEq, Eq)]
 pub enum Settled {
     Refused(Answer),
     Taken { pcm: Chunk, looped: Loop },
@@ -182,7 +187,8 @@ fn is_loop_invalid(count: usize, l: Loop) -> bool
     }
 }
 
-// The named word may be any number, so that its sum with the count might not fit: the count is taken from the room.
+// The named word may be any number, so that its sum with the count might not fit: the count is
+// taken from the room.
 fn has_no_place(room: usize, word: usize, count: usize, l: Loop) -> bool
     requires { count ≤ MOST_FILE_BYTES }
     ensures { result ≡ has_no_place room word count l }

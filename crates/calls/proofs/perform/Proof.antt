@@ -4,7 +4,7 @@ use mathlib.Core.List.{List}
 use Prim.Native.Nat.{ℕ}
 use borrow.Author.Rules.{rules}
 use lib.IntN.{ℤ}
-use Rattle.answer.specs.declared.Answer.{Answer}
+use Rattle.answer.specs.Answer.{Answer}
 use Rattle.calls.specs.Asks.{Performs}
 use Rattle.calls.specs.declared.Ask.{Ask}
 use Rattle.calls.proofs.Performs.{resets, writes, reads, sets_pot, tells_waiting, frames}

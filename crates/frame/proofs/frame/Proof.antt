@@ -1,7 +1,7 @@
 -- `frame::frame` meets its contract: refused, and done. Assumes nothing.
 use mathlib.Core.Path.{◌≡◌, sym, ap, subst, ◌∙◌}
 use borrow.Author.Rules.{rules}
-use Rattle.answer.specs.declared.Answer.TheVariants.{Done}
+use Rattle.answer.specs.Answer.{Done}
 use Rattle.answer.proofs.Refusals.{is_refusal}
 use Rattle.machine.proofs.Valid.{Sound, in_range, is_valid}
 use Rattle.frame.specs.Frame.{closed, heard, frame_answer}

@@ -1,5 +1,6 @@
 -- `machine::check` meets its contract. The loop's invariant: no lane has a bit where the words passed have in no voice a bit that they do
 -- not keep. Assumes nothing.
+use Rattle.std.specs.Prelude.{Err}
 use mathlib.Core.Path.{◌≡◌, refl, sym, ◌∙◌}
 use mathlib.Core.Bool.{Bool, true, false, cond}
 use Prim.Native.Nat.{ℕ, ◌+◌, ◌*◌, ◌-◌, ◌<◌, ◌≤◌}
@@ -7,7 +8,8 @@ use native.Mathlib.Omega.{arith}
 use lib.ListN.{get_or}
 use borrow.Author.Rules.{rules}
 use borrow.Author.Tests.{eq-eqb, ne_eqb, lt-ltb, le-ltb}
-use Rattle.answer.specs.declared.Answer.TheVariants.{Done, RecordInvalid}
+use Rattle.answer.specs.Answer.{Done}
+use Rattle.answer.specs.declared.Refusal.TheVariants.{RecordInvalid}
 use Rattle.machine.specs.Words.{shared_bits, is_vector, IRQV, VOICES, NO_INTERRUPT}
 use Rattle.machine.specs.Kept.{gathered_kept, clear, Lanes}
 use Rattle.machine.specs.Check.{checked}
@@ -55,7 +57,7 @@ returns_2 c =
 -- past that test, the vector decides
 by_vector : (c : tie.Else-stray-false_bits-ne0 invariant-loop decreases-loop) (b : Bool)
     → is_vector (get_or c.before.before.before.before.before.before.before.before.before.before.args.m.now IRQV 0) ≡ b
-    → cond b Done RecordInvalid ≡ checked c.before.before.before.before.before.before.before.before.before.before.args.m.now
+    → cond b Done (Err RecordInvalid) ≡ checked c.before.before.before.before.before.before.before.before.before.before.args.m.now
 by_vector c b q =
     let g = c.before in
     let e = g.before.before.before.before.before.before.before in

@@ -2,7 +2,7 @@
 use mathlib.Core.Path.{◌≡◌, sym, ◌∙◌}
 use native.Mathlib.Omega.{arith}
 use borrow.Author.Rules.{rules}
-use Rattle.answer.specs.declared.Answer.TheVariants.{Done}
+use Rattle.answer.specs.Answer.{Done}
 use Rattle.answer.proofs.Refusals.{is_refusal}
 use Rattle.machine.specs.Check.{checked}
 use Rattle.machine.proofs.Answers.{not_refused, waiting_refused, waiting_done}

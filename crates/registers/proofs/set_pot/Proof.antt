@@ -2,7 +2,7 @@
 use mathlib.Core.Path.{refl, sym, ◌∙◌}
 use native.Mathlib.Omega.{arith}
 use borrow.Author.Rules.{rules}
-use Rattle.answer.specs.declared.Answer.TheVariants.{Pot}
+use Rattle.answer.specs.declared.Refusal.TheVariants.{Pot}
 use Rattle.answer.proofs.Refusals.{is_refusal}
 use Rattle.machine.proofs.Valid.{Sound}
 use Rattle.machine.proofs.Answers.{not_refused}

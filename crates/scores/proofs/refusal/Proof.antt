@@ -5,9 +5,8 @@ use mathlib.Core.Bool.{cond}
 use Prim.Native.Nat.{ℕ}
 use native.Mathlib.Omega.{arith}
 use borrow.Author.Rules.{rules}
-use Rattle.answer.specs.Answer.{is_done, answer_number}
-use Rattle.answer.specs.declared.Answer.{Answer}
-use Rattle.answer.specs.declared.Answer.TheVariants.{Done, RecordLength, RecordInvalid, Address, Pot, MemoryLength, OutputLength, TooFewVoices, FileBroken, ChunkCount, SampleFormat, LoopInvalid, NoPlace}
+use Rattle.answer.specs.Answer.{Answer, Done, answer_number, is_done}
+use Rattle.answer.specs.declared.Refusal.TheVariants.{RecordLength, RecordInvalid, Address, Pot, MemoryLength, OutputLength, TooFewVoices, FileBroken, ChunkCount, SampleFormat, LoopInvalid, NoPlace}
 use Rattle.scores.proofs.refusal.Statement.{statement}
 use Rattle.scores.proofs.refusal.Tie as tie
 
