@@ -37,8 +37,8 @@ impl Model for Coefficient {
     ghost inverse = { λ k. record { 0 = k } };
 }
 
-/// The last outputs of poles 1 to 4. They are plain numbers, which any caller may make: that each has
-/// 18 bits is asked by `filter`, and promised.
+/// The last outputs of poles 1 to 4. They are plain numbers, which any caller may make: that each
+/// has 18 bits is what `filter` asks, and promises.
 #[derive(Clone, Copy, Debug, PartialEq, Eq)]
 pub struct Poles {
     pub o1: i32,
