@@ -46,7 +46,8 @@ pub fn turn(w: &mut [u32], slow: u32, samples: &Samples, missing: &mut u32) -> O
     let cr = w[machine::CR];
     let x = input(w, cr, samples, missing);
     let o4 = pass(w, cr, x);
-    if control::running(cr) {
+    let runs = control::running(cr);
+    if runs {
         let left = volume::pan(w[machine::LVOL], o4);
         let right = volume::pan(w[machine::RVOL], o4);
         step(w, cr);
