@@ -19,6 +19,7 @@ pub const REPEAT: u8 = 7;
 // ---- a repeat
 
 // By how many bytes a command goes back.
+#[tactic(auto, using(crate::proofs::Full::number_is))]
 fn back(command: [u8; COMMAND_BYTES]) -> usize
     ensures { result ≡ back_at command 0 }
 {
@@ -36,7 +37,7 @@ fn asked(command: [u8; COMMAND_BYTES]) -> usize
 
 // Whether it repeats others, where so many bytes in full stand before it.
 #[tactic(auto, unfolding(crate::specs::Repeats::repeats_at))]
-fn repeats(command: [u8; COMMAND_BYTES], before: usize) -> bool
+fn repeats_others(command: [u8; COMMAND_BYTES], before: usize) -> bool
     ensures { result ≡ repeats_at command 0 before }
 {
     let back = back(command);
@@ -64,7 +65,7 @@ fn stands_bytes(command: [u8; COMMAND_BYTES], before: usize) -> usize
     ensures value { result ≡ cond (repeats_at command 0 before) (asked_at command 0) COMMAND_BYTES }
     ensures few { result ≤ 1020 }
 {
-    if repeats(command, before) {
+    if repeats_others(command, before) {
         asked(command)
     } else {
         COMMAND_BYTES
@@ -74,6 +75,7 @@ fn stands_bytes(command: [u8; COMMAND_BYTES], before: usize) -> usize
 // ---- the commands in full
 
 /// Puts them at the start of `full`, and answers how many bytes they are.
+// The room is lent, and no `Vec` is handed back: so it can't fail, and needs no allocator.
 pub fn put_in_full(commands: &[u8], full: &mut [u8]) -> usize
     requires { length (in_full commands.now) ≤ length full.old }
     ensures value { result ≡ length (in_full commands.now) }
@@ -93,13 +95,13 @@ fn put_stands_for(command: [u8; COMMAND_BYTES], full: &mut [u8], n: usize) -> us
     ensures value { result ≡ length (stands_for (take n full.old) command 0) }
     ensures full_after { full.new ≡ with_part full.old n (stands_for (take n full.old) command 0) }
 {
-    if repeats(command, n) {
+    if repeats_others(command, n) {
         let from = n - back(command);
         let asked = asked(command);
         full.copy_within(from..from + asked, n);
         asked
     } else {
-        full[n..n + COMMAND_BYTES].copy_from_slice(&command);
+        layout::put4(full, n, command);
         COMMAND_BYTES
     }
 }
