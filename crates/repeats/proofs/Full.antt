@@ -1,68 +1,24 @@
 -- Laws of commands in full.
--- In order: a command by its own bytes, as the code has it (`chunk_is`, `own_repeats`, `own_stands`); one that repeats others (`there`), and how long is what one stands
+-- In order: a command that repeats others (`there`), and how long is what one stands
 -- for (`stands_length`); a command as it is put, where it repeats others (`again_long`, `stands_again`) and where it does not
 -- (`itself_long`, `stands_itself`); one command more in full (`full_next`, `full_length`); all of them, put one after the other
 -- (`put_bytes`, `put_fits`, `put_next`). Assumes nothing.
 use mathlib.Core.Path.{◌≡◌, refl, sym, ap, subst, ◌∙◌}
 use mathlib.Core.Bool.{true, false, cond, ◌&&◌, and-eq-true_iff}
-use mathlib.Core.List.{List, [], ◌++◌, append_assoc}
+use mathlib.Core.List.{List, ◌++◌, append_assoc}
 use Prim.Native.Nat.{ℕ, zero, suc, ◌+◌, ◌-◌, ◌*◌, ◌≤◌, ◌<◌}
-use native.Mathlib.Nat.{zero-add, add-zero, mul-zero, mul-suc}
+use native.Mathlib.Nat.{zero-add}
 use native.Mathlib.Numerals.{add-one}
 use native.Mathlib.Omega.{arith}
 use borrow.Author.Tests.{leb-true}
 use lib.Dec.{eqb, leb}
-use lib.ListN.{length, get_or, take, drop, length-append}
-use lib.Seq.{length-take-le, take_all, drop-drop, paste}
-use Rattle.std.specs.Simd.{first_chunks}
-use Rattle.std.proofs.lemmas.List.{drop-take, take-take}
+use lib.ListN.{length, take, drop, length-append}
+use lib.Seq.{length-take-le, take_all, paste}
 use Rattle.numbers.proofs.Tests.{split}
 use Rattle.layout.specs.Parts.{part, with_part}
-use Rattle.layout.proofs.Parts.{part_length, part_at, part-take, with_first, with_more}
-use Rattle.layout.specs.Bytes.{big, big2_at}
-use Rattle.layout.proofs.Bytes.{part_2}
-use Rattle.layout.proofs.Endian.{big_2}
+use Rattle.layout.proofs.Parts.{part_length, part-take, with_first, with_more}
+use Rattle.repeats.proofs.Command.{own_asked, own_repeats, own_stands}
 use Rattle.repeats.specs.Repeats.{COMMAND_BYTES, command_count, REPEAT, kind_at, back_at, asked_at, repeats_at, stands_for, full_to, in_full}
-
--- ---- a command by its own bytes
-
--- the arrays of n elements that a list is cut into are its parts
-pub chunk_is : (n k : ℕ) (xs : List ℕ) (i : ℕ) → i < k → get_or (first_chunks n k xs) i [] ≡ part xs (n * i) n
-chunk_is n zero xs i h = absurd (omega arith)
-chunk_is n (suc k) xs zero h = rw mul-zero refl
-chunk_is n (suc k) xs (suc i) h =
-    let e : n + n * i ≡ n * suc i = omega (arith, mul-suc n i) in
-    chunk_is n k (drop n xs) i (omega arith) ∙ ap (take n) (drop-drop (n * i) n xs ∙ ap (λ (m : ℕ). drop m xs) e)
-
--- and so are those that the code has
-pub command_is : (xs : List ℕ) (chunks : List (List ℕ)) (k : ℕ) → chunks ≡ first_chunks COMMAND_BYTES (command_count xs) xs → k < command_count xs
-    → get_or chunks k [] ≡ part xs (COMMAND_BYTES * k) COMMAND_BYTES
-command_is xs chunks k e h = rw e (chunk_is COMMAND_BYTES (command_count xs) xs k h)
-
-module _ (xs : List ℕ) (i : ℕ) where
-  own_kind : kind_at (part xs i COMMAND_BYTES) 0 ≡ kind_at xs i
-  own_kind = part_at xs i COMMAND_BYTES 0 0 (omega arith) ∙ rw add-zero refl
-
-  own_back : back_at (part xs i COMMAND_BYTES) 0 ≡ back_at xs i
-  own_back =
-      let e : part (part xs i COMMAND_BYTES) 1 2 ≡ part xs (i + 1) 2 =
-      ap (take 2) (drop-take 1 3 (drop i xs)) ∙ take-take 2 3 (drop 1 (drop i xs)) (omega arith) ∙ ap (take 2) (drop-drop 1 i xs) in
-      ap (λ (two : List ℕ). COMMAND_BYTES * big two) e
-
-  pub own_asked : asked_at (part xs i COMMAND_BYTES) 0 ≡ asked_at xs i
-  own_asked = ap (λ (b : ℕ). COMMAND_BYTES * b) (part_at xs i COMMAND_BYTES 3 0 (omega arith))
-
-  pub own_repeats : (before : ℕ) → repeats_at (part xs i COMMAND_BYTES) 0 before ≡ repeats_at xs i before
-  unfolding repeats_at
-  own_repeats before = rw (own_kind, own_back, own_asked) refl
-
-  pub own_stands : (before : List ℕ) → stands_for before (part xs i COMMAND_BYTES) 0 ≡ stands_for before xs i
-  unfolding stands_for
-  own_stands before = rw (own_repeats (length before), own_back, own_asked, take-take COMMAND_BYTES COMMAND_BYTES (drop i xs) (omega arith)) refl
-
--- the number, of its two bytes
-pub number_is : (command : List ℕ) → length command ≡ COMMAND_BYTES → get_or command 1 0 * 256 + get_or command 2 0 ≡ big2_at command 1
-number_is command h = big_2 (get_or command 1 0) (get_or command 2 0) ∙ ap big (sym (part_2 command 1 (omega arith)))
 
 -- ---- what a command stands for
 

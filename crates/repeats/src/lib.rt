@@ -19,7 +19,7 @@ pub const REPEAT: u8 = 7;
 // ---- a repeat
 
 // By how many bytes a command goes back.
-#[tactic(auto, using(crate::proofs::Full::number_is))]
+#[tactic(auto, using(crate::proofs::Command::number_is))]
 fn back(command: [u8; COMMAND_BYTES]) -> usize
     ensures { result ≡ back_at command 0 }
 {

@@ -1,6 +1,7 @@
 use Rattle.std.proofs.Common.{refl, arith}
 use Rattle.repeats.specs.Repeats.{full_to}
-use Rattle.repeats.proofs.Full.{command_is, full_length}
+use Rattle.repeats.proofs.Command.{command_is}
+use Rattle.repeats.proofs.Full.{full_length}
 use Rattle.repeats.proofs.full_bytes.Goals as goal
 
 pub loop-command-init : goal.loop-command-init

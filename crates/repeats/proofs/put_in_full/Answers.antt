@@ -1,6 +1,7 @@
 use Rattle.std.proofs.Common.{refl, arith}
 use Rattle.repeats.specs.Repeats.{full_to}
-use Rattle.repeats.proofs.Full.{command_is, put_bytes, put_fits, put_next}
+use Rattle.repeats.proofs.Command.{command_is}
+use Rattle.repeats.proofs.Full.{put_bytes, put_fits, put_next}
 use Rattle.repeats.proofs.put_in_full.Goals as goal
 
 pub loop-command-init : goal.loop-command-init

@@ -7,7 +7,10 @@ pub overflow_sub-from : goal.overflow_sub-from
 overflow_sub-from c = let w = there c.args.command 0 c.args.n (sym c.if-repeats_others.ensures) in omega arith
 
 pub copy_within-requires-clause-in_bounds : goal.copy_within-requires-clause-in_bounds
-copy_within-requires-clause-in_bounds c = let w = there c.args.command 0 c.args.n (sym c.if-repeats_others.ensures) in omega arith
+copy_within-requires-clause-in_bounds c =
+    let w = there c.args.command 0 c.args.n (sym c.if-repeats_others.ensures) in
+    let l = again_long c.args.full.now c.args.command c.args.n (omega arith) c.requires c.if-repeats_others.ensures in
+    omega arith
 
 pub copy_within-requires-clause-dest_in_bounds : goal.copy_within-requires-clause-dest_in_bounds
 copy_within-requires-clause-dest_in_bounds c =
