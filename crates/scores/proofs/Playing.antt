@@ -1,13 +1,13 @@
 -- Some calls of a score, one at a time.
 -- In order: the calls that are left at a place, one call on or one command on (`one_call`, `one_command`), and where none is left (`left_none`);
--- what is heard of a run from its first call on (`heard-cons`); a score while it is played (`Going`): it begins, one call more is made, and it ends (`over`). Assumes nothing.
+-- what is heard of a run from its first call on (`heard-cons`); a score while it is played (`Going`): it begins, one call more is made, and it ends (`ended`). Assumes nothing.
 use mathlib.Core.Path.{◌≡◌, refl, sym, ap, subst, ◌∙◌}
 use mathlib.Core.Bool.{Bool, true, false, cond, true≢false}
 use mathlib.Core.List.{List, [], ◌∷◌, ◌++◌, append_assoc, append-nil}
-use Prim.Native.Nat.{ℕ, zero, suc, ◌+◌, ◌-◌, ◌*◌, ◌≤◌, ◌<◌}
+use Prim.Native.Nat.{ℕ, zero, suc, ◌+◌, ◌-◌, ◌*◌, ◌/◌, ◌≤◌, ◌<◌}
 use native.Mathlib.Nat.{add-zero, zero-add}
 use native.Mathlib.Omega.{arith}
-use borrow.Author.Tests.{lt-ltb, le-ltb}
+use borrow.Author.Tests.{lt-ltb, le-ltb, ne_eqb}
 use Rattle.std.specs.Prelude.{None, Some}
 use lib.IntN.{ℤ}
 use lib.ListN.{length, take, drop, replicate, length-append}
@@ -23,7 +23,7 @@ use Rattle.calls.specs.declared.Ask.{Ask}
 use Rattle.repeats.specs.Repeats.{command_count}
 use Rattle.scores.specs.Score.{command_no, silence, times_of, call_after, calls_of, calls_from}
 use Rattle.scores.specs.Sound.{SAMPLE_BYTES, sample_bytes, sound_of}
-use Rattle.scores.specs.Playing.{left_from, is_frame, frames_in, refusals, heard_from, heard_at, Makes}
+use Rattle.scores.specs.Playing.{left_from, is_frame, frames_in, refusals, heard_from, heard_at, Makes, Plays}
 use Rattle.scores.specs.declared.Command.{Command}
 use Rattle.scores.proofs.Making.{Long}
 
@@ -43,15 +43,15 @@ drop_replicated x (suc t) rest = drop_replicated x t rest
 call_there : (c : Command) (made : ℕ) (a : Ask) → call_after c made ≡ Some a → made < times_of c
 unfolding call_after times_of
 call_there (Command.Once b) zero a e = omega arith
-call_there (Command.Once b) (suc n) a e = absurd (cc)
-call_there (Command.Frames n) made a e = cases made n _ (λ l. l) (λ u. absurd (let g : None ≡ Some a = rw (le-ltb n made u) at e in cc))
+call_there (Command.Once b) (suc n) a e = let g : None ≡ Some a = rw (ne_eqb (suc n) 0 (omega arith)) at e in absurd (cc)
+call_there (Command.Frames n) made a e = cases made n _ (λ l. l) (λ u. let g : None ≡ Some a = rw (le-ltb made n u) at e in absurd (cc))
 call_there Command.Nothing made a e = absurd (cc)
 
 none_there : (c : Command) (made : ℕ) → call_after c made ≡ None → made ≤ times_of c → made ≡ times_of c
 unfolding call_after times_of
 none_there (Command.Once b) zero e l = absurd (cc)
 none_there (Command.Once b) (suc n) e l = omega arith
-none_there (Command.Frames n) made e l = cases made n _ (λ k. absurd (let g : Some Ask.Frame ≡ None = rw (lt-ltb made n k) at e in cc)) (λ u. omega arith)
+none_there (Command.Frames n) made e l = cases made n _ (λ k. let g : Some Ask.Frame ≡ None = rw (lt-ltb made n k) at e in absurd (cc)) (λ u. omega arith)
 none_there Command.Nothing made e l = omega arith
 
 module _ (memory : List ℕ) where
@@ -59,7 +59,7 @@ module _ (memory : List ℕ) where
       → drop made (calls_of memory c ++ rest) ≡ call_of a memory silence ∷ drop (suc made) (calls_of memory c ++ rest)
   unfolding call_after calls_of
   drop_call (Command.Once b) zero a rest e = let g : b ≡ a = cc in ap (λ (x : Ask). call_of x memory silence ∷ rest) g
-  drop_call (Command.Once b) (suc n) a rest e = absurd (cc)
+  drop_call (Command.Once b) (suc n) a rest e = let g : None ≡ Some a = rw (ne_eqb (suc n) 0 (omega arith)) at e in absurd (cc)
   drop_call (Command.Frames n) made a rest e =
       cases made n _
       (λ l.
@@ -67,7 +67,7 @@ module _ (memory : List ℕ) where
       let g : Ask.Frame ≡ a = cc in
       drop-replicate (call_of Ask.Frame memory silence) n made rest l
       ∙ ap (λ (x : Ask). call_of x memory silence ∷ drop (suc made) (replicate n (call_of Ask.Frame memory silence) ++ rest)) g)
-      (λ u. absurd (let g : None ≡ Some a = rw (le-ltb n made u) at e in cc))
+      (λ u. let g : None ≡ Some a = rw (le-ltb made n u) at e in absurd (cc))
   drop_call Command.Nothing made a rest e = absurd (cc)
 
   drop_all : (c : Command) (rest : List Call) → drop (times_of c) (calls_of memory c ++ rest) ≡ rest
@@ -259,7 +259,7 @@ module _ {room : ℕ} {all : List Call} {m₀ sound₀ : List ℕ} {c : Call} {c
       }
 
 -- all calls that there is room for are made, or none is left
-pub over : (room calls : ℕ) (cs : List Call) → (calls < room → cs ≡ []) → (take (room - calls) cs ≡ []) × (drop (room - calls) cs ≡ cs)
+over : (room calls : ℕ) (cs : List Call) → (calls < room → cs ≡ []) → (take (room - calls) cs ≡ []) × (drop (room - calls) cs ≡ cs)
 over room calls cs none =
     cases calls room _
     (λ l. rw (none l) (take-nil (room - calls), drop-nil (room - calls)))
@@ -267,19 +267,19 @@ over room calls cs none =
 
 module _ {room : ℕ} {all : List Call} {m₀ sound₀ : List ℕ} {cs : List Call} {m sound : List ℕ} {calls frames refused : ℕ}
     (g : Going room all m₀ sound₀ cs m sound calls frames refused) (none : take (room - calls) cs ≡ []) (rest : drop (room - calls) cs ≡ cs) where
-  pub leaves_end : m ≡ run m₀ (take room all)
+  leaves_end : m ≡ run m₀ (take room all)
   unfolding run
   leaves_end = sym (g.leaves ∙ ap (run m) none)
 
-  pub counts_end : frames ≡ frames_in (take room all)
+  counts_end : frames ≡ frames_in (take room all)
   unfolding frames_in
   counts_end = sym (g.counts ∙ ap (λ (l : List Call). frames + frames_in l) none ∙ add-zero frames)
 
-  pub refuses_end : refused ≡ refusals (answers m₀ (take room all))
+  refuses_end : refused ≡ refusals (answers m₀ (take room all))
   unfolding refusals answers
   refuses_end = sym (g.refuses ∙ ap (λ (l : List Call). refused + refusals (answers m l)) none ∙ add-zero refused)
 
-  pub hears_end : take (SAMPLE_BYTES * frames) sound ≡ heard_from m₀ (take room all)
+  hears_end : take (SAMPLE_BYTES * frames) sound ≡ heard_from m₀ (take room all)
   unfolding heard_from frames_in outputs sound_of
   hears_end =
       sym
@@ -287,5 +287,26 @@ module _ {room : ℕ} {all : List Call} {m₀ sound₀ : List ℕ} {cs : List Ca
       ∙ ap (λ (l : List Call). take (SAMPLE_BYTES * frames) sound ++ heard_from m l) none
       ∙ append-nil (take (SAMPLE_BYTES * frames) sound))
 
-  pub goes_end : cs ≡ drop room all
+  goes_end : cs ≡ drop room all
   goes_end = sym (g.goes ∙ rest)
+
+-- and that is what playing promises
+pub ended : {memory commands m₀ sound₀ m sound : List ℕ} {k₀ made₀ k made calls frames refused : ℕ}
+    → Going (length sound₀ / SAMPLE_BYTES) (left_from memory commands k₀ made₀) m₀ sound₀ (left_from memory commands k made) m sound calls frames refused
+    → calls ≤ length sound₀ / SAMPLE_BYTES → made ≤ times_of (command_no commands k) → (calls < length sound₀ / SAMPLE_BYTES → command_count commands ≤ k)
+    → Plays m₀ memory commands k₀ made₀ sound₀ (record { position = record { command = k; made = made }; frames = frames; refused = refused }) m sound
+ended {memory} {commands} {sound₀} {k} {made} {calls} g few within stop =
+    let room = length sound₀ / SAMPLE_BYTES in
+    let left = left_from memory commands k made in
+    let o = over room calls left (λ h. left_none memory commands k made (stop h)) in
+    record {
+      leaves = leaves_end g o.0 o.1;
+      counts = counts_end g o.0 o.1;
+      refuses = refuses_end g o.0 o.1;
+      hears = hears_end g o.0 o.1;
+      stays = g.stays;
+      goes = goes_end g o.0 o.1;
+      fits = omega (arith, g.frames_few);
+      within = within;
+      ends = λ h. cases calls room _ (λ l. absurd (let none = stop l in omega arith)) (λ u. omega (arith, g.sum));
+    }

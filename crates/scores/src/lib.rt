@@ -63,6 +63,7 @@ pub enum Command {
 impl From<[u8; COMMAND_BYTES]> for Command {
     ghost from_gives = { λ bytes command. command ≡ command_at bytes 0 };
 
+    #[tactic(auto, using(repeats::proofs::Command::number_is), unfolding(crate::specs::Score::command_of))]
     fn from(bytes: [u8; COMMAND_BYTES]) -> Self {
         let [kind, high, low, byte] = bytes;
         let number = u16::from_be_bytes([high, low]);
@@ -80,6 +81,7 @@ impl From<[u8; COMMAND_BYTES]> for Command {
 }
 
 impl Command {
+    #[tactic(auto, unfolding(crate::specs::Score::call_after))]
     /// The call that it makes where so many of its calls are made; none where these are all.
     pub fn call(self, made: u32) -> Option<Ask>
         ensures { result ≡ call_after self made }
@@ -91,6 +93,7 @@ impl Command {
         }
     }
 
+    #[tactic(auto, unfolding(crate::specs::Score::frames_of))]
     fn frames(self) -> u64
         ensures value { result ≡ frames_of self }
         ensures few { result < 65536 }
@@ -103,6 +106,7 @@ impl Command {
     }
 }
 
+#[tactic(auto, unfolding(crate::specs::Score::is_frame_ask))]
 fn is_frame(ask: Ask) -> bool
     ensures { result ≡ is_frame_ask ask }
 {
@@ -128,9 +132,9 @@ pub fn frames_of(commands: &[u8]) -> u64
     requires { length commands.now ≤ MOST_FULL_BYTES }
     ensures { result ≡ all_frames commands.now }
 {
-    let (commands, _) = commands.as_chunks::<COMMAND_BYTES>();
+    let (whole, _) = commands.as_chunks::<COMMAND_BYTES>();
     let mut n = 0;
-    for command in commands {
+    for command in whole {
         n += Command::from(*command).frames();
     }
     n
@@ -159,6 +163,7 @@ pub enum ScoreError {
 
 /// Where the score is good, its commands stand in full at the start of `full` then; else what
 /// stands there says nothing.
+#[tactic(auto, using(crate::proofs::Judged::too_long, crate::proofs::Judged::no_memory, crate::proofs::Judged::cut, crate::proofs::Judged::too_many))]
 pub fn judge(score: &[u8], full: &mut [u8]) -> Result<(), ScoreError>
     requires { length full.old ≡ MOST_FULL_BYTES }
     ensures value { result ≡ verdict_of score.now }
@@ -181,6 +186,7 @@ pub fn judge(score: &[u8], full: &mut [u8]) -> Result<(), ScoreError>
     judge_commands(&full[..bytes])
 }
 
+#[tactic(auto, unfolding(crate::specs::Score::commands_verdict))]
 fn judge_commands(commands: &[u8]) -> Result<(), ScoreError>
     requires { length commands.now ≤ MOST_FULL_BYTES }
     ensures { result ≡ commands_verdict commands.now }
@@ -201,8 +207,8 @@ fn judge_commands(commands: &[u8]) -> Result<(), ScoreError>
 fn all_below(kind: u8, commands: &[u8]) -> bool
     ensures { result ≡ all_below kind commands.now }
 {
-    let (commands, _) = commands.as_chunks::<COMMAND_BYTES>();
-    commands.iter().all(|command| command[0] < kind)
+    let (whole, _) = commands.as_chunks::<COMMAND_BYTES>();
+    whole.iter().all(|command| command[0] < kind)
 }
 
 // ---- what is heard of a frame
@@ -281,7 +287,7 @@ pub fn play(
     requires { position.made ≤ times_of (command_no commands.now position.command) }
     ensures { Plays m.old memory.now commands.now position.command position.made sound.old result m.new sound.new }
 {
-    let (commands, _) = commands.as_chunks::<COMMAND_BYTES>();
+    let (whole, _) = commands.as_chunks::<COMMAND_BYTES>();
     let room = sound.len() / SAMPLE_BYTES;
     let Position {
         mut command,
@@ -291,8 +297,8 @@ pub fn play(
     let mut frames = 0;
     let mut refused = 0;
     // No `for` over the commands: it begins and stops within one of them.
-    while calls < room && command < commands.len() {
-        match Command::from(commands[command]).call(made) {
+    while calls < room && command < whole.len() {
+        match Command::from(whole[command]).call(made) {
             Some(ask) => {
                 let answer = make(m, memory, ask, sound, SAMPLE_BYTES * frames);
                 made += 1;
