@@ -1,46 +1,24 @@
 -- Laws of commands in full.
--- In order: a part put once more, byte by byte (`again_next`, `again_all`); a command that repeats others (`there`), and how long is what one stands
--- for (`stands_length`); a command as it is put, where it repeats others (`again_long`, `again_fits`, `stands_again`) and where it does not
+-- In order: a command that repeats others (`there`), and how long is what one stands
+-- for (`stands_length`); a command as it is put, where it repeats others (`again_long`, `stands_again`) and where it does not
 -- (`itself_long`, `stands_itself`); one command more in full (`full_next`, `full_length`); all of them, put one after the other
 -- (`put_bytes`, `put_fits`, `put_next`). Assumes nothing.
 use mathlib.Core.Path.{◌≡◌, refl, sym, ap, subst, ◌∙◌}
 use mathlib.Core.Bool.{true, false, cond, ◌&&◌, and-eq-true_iff}
-use mathlib.Core.List.{List, [], ◌∷◌, ◌++◌, append_assoc}
+use mathlib.Core.List.{List, ◌++◌, append_assoc}
 use Prim.Native.Nat.{ℕ, zero, suc, ◌+◌, ◌-◌, ◌*◌, ◌≤◌, ◌<◌}
 use native.Mathlib.Nat.{zero-add}
 use native.Mathlib.Numerals.{add-one}
 use native.Mathlib.Omega.{arith}
 use borrow.Author.Tests.{leb-true}
 use lib.Dec.{eqb, leb}
-use lib.ListN.{length, get_or, set, take, drop, length-append, length-drop, get_or-append}
-use lib.Seq.{length-take-le, get_or-take, get_or-drop, paste, paste-suc}
+use lib.ListN.{length, take, drop, length-append}
+use lib.Seq.{length-take-le, take_all, paste}
 use Rattle.numbers.proofs.Tests.{split}
 use Rattle.layout.specs.Parts.{part, with_part}
 use Rattle.layout.proofs.Parts.{part_length, part-take, with_first, with_more}
-use Rattle.layout.proofs.Bytes.{part_4}
+use Rattle.repeats.proofs.Command.{own_asked, own_repeats, own_stands}
 use Rattle.repeats.specs.Repeats.{COMMAND_BYTES, command_count, REPEAT, kind_at, back_at, asked_at, repeats_at, stands_for, full_to, in_full}
-
--- ---- a part put once more
-
-module _ (xs : List ℕ) (from to n : ℕ) (before : from + n ≤ to) (fits : to + n ≤ length xs) where
-  -- what is read while the first i are put
-  again_read : (i : ℕ) → i < n → get_or (paste xs to (drop from xs) i) (from + i) 0 ≡ get_or (drop from xs) i 0
-  again_read i h =
-      let l : from + i < length (take to xs) = rw (length-take-le to xs (omega arith)) (omega arith) in
-      let s : from + i < length (take to xs ++ take i (drop from xs)) = rw length-append (omega (arith, l)) in
-      get_or-append (take to xs ++ take i (drop from xs)) (drop (to + i) xs) 0 (from + i) s
-      ∙ get_or-append (take to xs) (take i (drop from xs)) 0 (from + i) l
-      ∙ get_or-take to xs (from + i) 0 (omega arith)
-      ∙ sym (get_or-drop from xs i 0)
-
-  pub again_next : (i : ℕ) → i < n
-      → set (paste xs to (drop from xs) i) (to + i) (get_or (paste xs to (drop from xs) i) (from + i) 0) ≡ paste xs to (drop from xs) (i + 1)
-  again_next i h =
-      let k : i < length (drop from xs) = rw length-drop (omega arith) in
-      rw (again_read i h, add-one i) (paste-suc xs to (drop from xs) i 0 (omega arith) k)
-
-  pub again_all : paste xs to (drop from xs) n ≡ with_part xs to (part xs from n)
-  again_all = rw (part_length xs from n (omega arith)) (append_assoc (take to xs) (part xs from n) (drop (to + n) xs))
 
 -- ---- what a command stands for
 
@@ -62,32 +40,34 @@ stands_length before xs i h =
     (λ f. rw f (part_length xs i COMMAND_BYTES h))
 
 -- a command as it is put after the first n bytes
-module _ (full xs : List ℕ) (i n : ℕ) (whole : i + COMMAND_BYTES ≤ length xs) (fits : n + length (stands_for (take n full) xs i) ≤ length full) where
+module _ (full command : List ℕ) (n : ℕ) (whole : length command ≡ COMMAND_BYTES) (fits : n + length (stands_for (take n full) command 0) ≤ length full) where
   before_long : length (take n full) ≡ n
   before_long = length-take-le n full (omega arith)
 
-  stands_bytes : length (stands_for (take n full) xs i) ≡ cond (repeats_at xs i n) (asked_at xs i) COMMAND_BYTES
-  stands_bytes = stands_length (take n full) xs i whole ∙ rw before_long refl
+  stands_bytes : length (stands_for (take n full) command 0) ≡ cond (repeats_at command 0 n) (asked_at command 0) COMMAND_BYTES
+  stands_bytes = stands_length (take n full) command 0 (omega arith) ∙ rw before_long refl
 
-  pub again_long : repeats_at xs i n ≡ true → asked_at xs i ≡ length (stands_for (take n full) xs i)
-  again_long t = sym (stands_bytes ∙ rw t refl)
+  pub again_long : true ≡ repeats_at command 0 n → asked_at command 0 ≡ length (stands_for (take n full) command 0)
+  again_long t = sym (stands_bytes ∙ rw (sym t) refl)
 
-  pub again_fits : repeats_at xs i n ≡ true → n + asked_at xs i ≤ length full
-  again_fits t = omega (arith, fits, again_long t)
-
-  pub stands_again : repeats_at xs i n ≡ true → part full (n - back_at xs i) (asked_at xs i) ≡ stands_for (take n full) xs i
+  pub stands_again : true ≡ repeats_at command 0 n → (from asked : ℕ) → from ≡ n - back_at command 0 → asked ≡ asked_at command 0
+      → paste full n (drop from full) (from + asked - from) ≡ with_part full n (stands_for (take n full) command 0)
   unfolding stands_for
-  stands_again t =
-      let w = there xs i n t in
-      rw (before_long, t) (sym (part-take full n (n - back_at xs i) (asked_at xs i) (omega (arith, w.0, w.1)) (omega arith)))
+  stands_again t from asked f a =
+      let w = there command 0 n (sym t) in
+      let l = again_long t in
+      let k : from + asked - from ≡ asked = omega arith in
+      let again : part full from asked ≡ stands_for (take n full) command 0 =
+      rw (before_long, ← t, f, a) (sym (part-take full n (n - back_at command 0) (asked_at command 0) (omega (arith, w.0, w.1)) (omega arith))) in
+      let long : length (part full from asked) ≡ asked = part_length full from asked (omega (arith, w.0, w.1)) in
+      rw (k, ← again, long) (append_assoc (take n full) (part full from asked) (drop (n + asked) full))
 
-  pub itself_long : repeats_at xs i n ≡ false → COMMAND_BYTES ≡ length (stands_for (take n full) xs i)
-  itself_long f = sym (stands_bytes ∙ rw f refl)
+  pub itself_long : false ≡ repeats_at command 0 n → COMMAND_BYTES ≡ length (stands_for (take n full) command 0)
+  itself_long f = sym (stands_bytes ∙ rw (sym f) refl)
 
-  pub stands_itself : repeats_at xs i n ≡ false
-      → get_or xs i 0 ∷ get_or xs (i + 1) 0 ∷ get_or xs (i + 2) 0 ∷ get_or xs (i + 3) 0 ∷ [] ≡ stands_for (take n full) xs i
+  pub stands_itself : false ≡ repeats_at command 0 n → with_part full n command ≡ with_part full n (stands_for (take n full) command 0)
   unfolding stands_for
-  stands_itself f = rw (before_long, f) (sym (part_4 xs i whole))
+  stands_itself f = rw (before_long, ← f, take_all COMMAND_BYTES command (omega arith)) refl
 
 -- ---- one command more
 
@@ -95,11 +75,14 @@ pub full_next : (xs : List ℕ) (k : ℕ) → full_to xs (k + 1) ≡ full_to xs 
 unfolding full_to
 full_next xs k = rw (add-one k) refl
 
-pub full_length : (xs : List ℕ) (k : ℕ) → COMMAND_BYTES * k + COMMAND_BYTES ≤ length xs
-    → length (full_to xs (k + 1))
-    ≡ length (full_to xs k) + cond (repeats_at xs (COMMAND_BYTES * k) (length (full_to xs k))) (asked_at xs (COMMAND_BYTES * k)) COMMAND_BYTES
-full_length xs k h =
-    rw (full_next xs k, length-append (full_to xs k) (stands_for (full_to xs k) xs (COMMAND_BYTES * k)), stands_length (full_to xs k) xs (COMMAND_BYTES * k) h) refl
+-- of a command that the code has as its bytes
+pub full_length : (xs : List ℕ) (k n r : ℕ) (command : List ℕ) → k < command_count xs → command ≡ part xs (COMMAND_BYTES * k) COMMAND_BYTES
+    → n ≡ length (full_to xs k) → r ≡ cond (repeats_at command 0 n) (asked_at command 0) COMMAND_BYTES → n + r ≡ length (full_to xs (k + 1))
+full_length xs k n r command h own e v =
+    let i = COMMAND_BYTES * k in
+    let stands : r ≡ length (stands_for (full_to xs k) xs i) =
+    v ∙ rw (own, own_repeats xs i n, own_asked xs i, e) (sym (stands_length (full_to xs k) xs i (omega arith))) in
+    rw (full_next xs k, length-append (full_to xs k) (stands_for (full_to xs k) xs i)) (λ j. e j + stands j)
 
 full_grows : (xs : List ℕ) (k n : ℕ) → length (full_to xs k) ≤ length (full_to xs (n + k))
 unfolding full_to
@@ -116,28 +99,30 @@ full_fits xs k h =
     let e : command_count xs - k + k ≡ command_count xs = omega arith in
     subst (λ (n : ℕ). length (full_to xs k) ≤ length (full_to xs n)) e (full_grows xs k (command_count xs - k))
 
--- the first k are put, in the first n bytes of the list
-module _ (xs full₀ : List ℕ) (fits : length (in_full xs) ≤ length full₀) (full : List ℕ) (n k : ℕ) (h : k < command_count xs) (bytes : n ≡ length (full_to xs k))
-    (put : full ≡ with_part full₀ 0 (full_to xs k)) where
+-- the first k are put, in the first n bytes of the list, and the code has the next one as its bytes
+module _ (xs full₀ : List ℕ) (fits : length (in_full xs) ≤ length full₀) (full command : List ℕ) (n k : ℕ) (h : k < command_count xs)
+    (own : command ≡ part xs (COMMAND_BYTES * k) COMMAND_BYTES) (bytes : n ≡ length (full_to xs k)) (put : full ≡ with_part full₀ 0 (full_to xs k)) where
   room : 0 + length (full_to xs k) ≤ length full₀
   room = rw zero-add (omega (arith, full_fits xs k (omega arith), fits))
 
-  put_start : take n full ≡ full_to xs k
-  put_start = rw (bytes, put) (with_first full₀ (full_to xs k))
+  next_stands : stands_for (take n full) command 0 ≡ stands_for (full_to xs k) xs (COMMAND_BYTES * k)
+  next_stands =
+      let start : take n full ≡ full_to xs k = rw (bytes, put) (with_first full₀ (full_to xs k)) in
+      rw (start, own) (own_stands xs (COMMAND_BYTES * k) (full_to xs k))
 
-  pub put_bytes : (r : ℕ) → r ≡ length (stands_for (take n full) xs (COMMAND_BYTES * k)) → n + r ≡ length (full_to xs (k + 1))
+  pub put_bytes : (r : ℕ) → r ≡ length (stands_for (take n full) command 0) → n + r ≡ length (full_to xs (k + 1))
   put_bytes r e =
       let s = stands_for (full_to xs k) xs (COMMAND_BYTES * k) in
-      let r-is : r ≡ length s = e ∙ ap (λ (l : List ℕ). length (stands_for l xs (COMMAND_BYTES * k))) put_start in
+      let r-is : r ≡ length s = e ∙ ap length next_stands in
       (λ i. bytes i + r-is i) ∙ sym (ap length (full_next xs k) ∙ length-append (full_to xs k) s)
 
-  pub put_fits : (r : ℕ) → r ≡ length (stands_for (take n full) xs (COMMAND_BYTES * k)) → n + r ≤ length full₀
+  pub put_fits : (r : ℕ) → r ≡ length (stands_for (take n full) command 0) → n + r ≤ length full₀
   put_fits r e = omega (arith, put_bytes r e, full_fits xs (k + 1) (omega arith), fits)
 
-  pub put_next : (later : List ℕ) → later ≡ with_part full n (stands_for (take n full) xs (COMMAND_BYTES * k)) → later ≡ with_part full₀ 0 (full_to xs (k + 1))
+  pub put_next : (later : List ℕ) → later ≡ with_part full n (stands_for (take n full) command 0) → later ≡ with_part full₀ 0 (full_to xs (k + 1))
   put_next later e =
       let s = stands_for (full_to xs k) xs (COMMAND_BYTES * k) in
       let one_more : with_part (with_part full₀ 0 (full_to xs k)) (length (full_to xs k)) s ≡ with_part full₀ 0 (full_to xs (k + 1)) =
       subst (λ (j : ℕ). with_part (with_part full₀ 0 (full_to xs k)) j s ≡ with_part full₀ 0 (full_to xs (k + 1))) (zero-add (length (full_to xs k)))
       (with_more full₀ 0 (full_to xs k) room s ∙ ap (with_part full₀ 0) (sym (full_next xs k))) in
-      e ∙ ap (λ (l : List ℕ). with_part full n (stands_for l xs (COMMAND_BYTES * k))) put_start ∙ rw (bytes, put) one_more
+      e ∙ ap (with_part full n) next_stands ∙ rw (bytes, put) one_more

@@ -18,30 +18,31 @@ pub const REPEAT: u8 = 7;
 
 // ---- a repeat
 
-// By how many bytes the command at `at` goes back.
-fn back_at(commands: &[u8], at: usize) -> usize
-    requires { at + COMMAND_BYTES ≤ length commands.now }
-    ensures { result ≡ back_at commands.now at }
+// By how many bytes a command goes back.
+#[tactic(auto, using(crate::proofs::Command::number_is))]
+fn back(command: [u8; COMMAND_BYTES]) -> usize
+    ensures { result ≡ back_at command 0 }
 {
-    COMMAND_BYTES * layout::big2_at(commands, at + 1) as usize
+    let [_, high, low, _] = command;
+    COMMAND_BYTES * usize::from(u16::from_be_bytes([high, low]))
 }
 
 // How many bytes it asks for: those of 255 commands at most, so that no sum of them wraps.
-fn asked_at(commands: &[u8], at: usize) -> usize
-    requires { at + COMMAND_BYTES ≤ length commands.now }
-    ensures { (result ≡ asked_at commands.now at) × (result ≤ 1020) }
+fn asked(command: [u8; COMMAND_BYTES]) -> usize
+    ensures value { result ≡ asked_at command 0 }
+    ensures few { result ≤ 1020 }
 {
-    COMMAND_BYTES * commands[at + 3] as usize
+    COMMAND_BYTES * usize::from(command[3])
 }
 
 // Whether it repeats others, where so many bytes in full stand before it.
-fn repeats_at(commands: &[u8], at: usize, before: usize) -> bool
-    requires { at + COMMAND_BYTES ≤ length commands.now }
-    ensures { result ≡ repeats_at commands.now at before }
+#[tactic(auto, unfolding(crate::specs::Repeats::repeats_at))]
+fn repeats_others(command: [u8; COMMAND_BYTES], before: usize) -> bool
+    ensures { result ≡ repeats_at command 0 before }
 {
-    let back = back_at(commands, at);
-    let asked = asked_at(commands, at);
-    (commands[at] == REPEAT) & (asked <= back) & (back <= before)
+    let back = back(command);
+    let asked = asked(command);
+    command[0] == REPEAT && asked <= back && back <= before
 }
 
 // ---- how many bytes there are in full
@@ -51,20 +52,21 @@ pub fn full_bytes(commands: &[u8]) -> usize
     requires { length commands.now ≤ 65536 }
     ensures { result ≡ length (in_full commands.now) }
 {
+    let (whole, _) = commands.as_chunks::<COMMAND_BYTES>();
     let mut n = 0;
-    for k in 0..commands.len() / COMMAND_BYTES {
-        n += stands_bytes(commands, COMMAND_BYTES * k, n);
+    for command in whole {
+        n += stands_bytes(*command, n);
     }
     n
 }
 
-// Of what the command at `at` stands for, where so many bytes stand before it.
-fn stands_bytes(commands: &[u8], at: usize, before: usize) -> usize
-    requires { at + COMMAND_BYTES ≤ length commands.now }
-    ensures { (result ≡ cond (repeats_at commands.now at before) (asked_at commands.now at) COMMAND_BYTES) × (result ≤ 1020) }
+// Of what a command stands for, where so many bytes stand before it.
+fn stands_bytes(command: [u8; COMMAND_BYTES], before: usize) -> usize
+    ensures value { result ≡ cond (repeats_at command 0 before) (asked_at command 0) COMMAND_BYTES }
+    ensures few { result ≤ 1020 }
 {
-    if repeats_at(commands, at, before) {
-        asked_at(commands, at)
+    if repeats_others(command, before) {
+        asked(command)
     } else {
         COMMAND_BYTES
     }
@@ -73,48 +75,33 @@ fn stands_bytes(commands: &[u8], at: usize, before: usize) -> usize
 // ---- the commands in full
 
 /// Puts them at the start of `full`, and answers how many bytes they are.
+// The room is lent, and no `Vec` is handed back: so it can't fail, and needs no allocator.
 pub fn put_in_full(commands: &[u8], full: &mut [u8]) -> usize
     requires { length (in_full commands.now) ≤ length full.old }
     ensures value { result ≡ length (in_full commands.now) }
     ensures full_after { full.new ≡ with_part full.old 0 (in_full commands.now) }
 {
+    let (whole, _) = commands.as_chunks::<COMMAND_BYTES>();
     let mut n = 0;
-    for k in 0..commands.len() / COMMAND_BYTES {
-        n += put_stands_for(commands, COMMAND_BYTES * k, full, n);
+    for command in whole {
+        n += put_stands_for(*command, full, n);
     }
     n
 }
 
-// What the command at `at` stands for, put after the first n bytes; answers how many bytes that is.
-fn put_stands_for(commands: &[u8], at: usize, full: &mut [u8], n: usize) -> usize
-    requires { (at + COMMAND_BYTES ≤ length commands.now) × (n + length (stands_for (take n full.old) commands.now at) ≤ length full.old) }
-    ensures value { result ≡ length (stands_for (take n full.old) commands.now at) }
-    ensures full_after { full.new ≡ with_part full.old n (stands_for (take n full.old) commands.now at) }
+// What a command stands for, put after the first n bytes; answers how many bytes that is.
+fn put_stands_for(command: [u8; COMMAND_BYTES], full: &mut [u8], n: usize) -> usize
+    requires { n + length (stands_for (take n full.old) command 0) ≤ length full.old }
+    ensures value { result ≡ length (stands_for (take n full.old) command 0) }
+    ensures full_after { full.new ≡ with_part full.old n (stands_for (take n full.old) command 0) }
 {
-    if repeats_at(commands, at, n) {
-        let back = back_at(commands, at);
-        let asked = asked_at(commands, at);
-        put_again(full, n - back, n, asked);
+    if repeats_others(command, n) {
+        let from = n - back(command);
+        let asked = asked(command);
+        full.copy_within(from..from + asked, n);
         asked
     } else {
-        layout::put4(
-            full,
-            n,
-            commands[at],
-            commands[at + 1],
-            commands[at + 2],
-            commands[at + 3],
-        );
+        layout::put4(full, n, command);
         COMMAND_BYTES
-    }
-}
-
-// So many bytes from `from` on, which all stand before `to`, once more at `to`.
-fn put_again(full: &mut [u8], from: usize, to: usize, bytes: usize)
-    requires { (from + bytes ≤ to) × (to + bytes ≤ length full.old) }
-    ensures { full.new ≡ with_part full.old to (part full.old from bytes) }
-{
-    for i in 0..bytes {
-        full[to + i] = full[from + i];
     }
 }

@@ -1,3 +1,5 @@
+pub mod Commands
+pub mod Loud
 pub mod Making
 pub mod Playing
 pub mod Judged

@@ -66,41 +66,30 @@ call_long (Ask.SetPot p) memory m h = absurd (false≢true h)
 call_long Ask.Waiting memory m h = absurd (false≢true h)
 call_long Ask.Frame memory m h = frame_long m memory
 
--- the four bytes one by one
-four_bytes : (values : List ℤ) (four : List ℕ) → four ≡ sample_bytes values → get_or four 0 0 ∷ get_or four 1 0 ∷ get_or four 2 0 ∷ get_or four 3 0 ∷ [] ≡ sample_bytes values
-unfolding sample_bytes little_bytes
-four_bytes values four e = rw e refl
-
 -- no part replaced
 same : (xs : List ℕ) (i : ℕ) → xs ≡ with_part xs i []
 same xs i = sym (rw add-zero (take-append-drop i xs))
 
-module _ (m memory : List ℕ) (ask : Ask) (sound : List ℕ) (at : ℕ) {answer : Answer} {given refused : ℕ} {later : List ℕ} {values : List ℤ}
-    (p : Performs m memory silence ask answer given later values) (q : refused ≡ cond (is_done answer) 0 1) where
-  refusal : refused ≡ cond (is_done (answer_to m (call_of ask memory silence))) 0 1
-  refusal = q ∙ ap (λ (a : Answer). cond (is_done a) 0 1) p.answers
-
-  pub a_frame : is_frame_ask ask ≡ true → (four : List ℕ) → four ≡ sample_bytes values → {heard : List ℕ}
-      → heard ≡ with_part sound at (get_or four 0 0 ∷ get_or four 1 0 ∷ get_or four 2 0 ∷ get_or four 3 0 ∷ [])
-      → Makes m (call_of ask memory silence) sound at (record { frames = 1; refused = refused }) later heard
+module _ (m memory : List ℕ) (ask : Ask) (sound : List ℕ) (at : ℕ) {answer : Answer} {given : ℕ} {later : List ℕ} {values : List ℤ}
+    (p : Performs m memory silence ask answer given later values) where
+  pub a_frame : is_frame_ask ask ≡ true → {heard : List ℕ} → heard ≡ with_part sound at (sample_bytes values)
+      → Makes m (call_of ask memory silence) sound at answer later heard
   unfolding heard_at
-  a_frame h four e w =
+  a_frame h w =
       let k : is_frame (call_of ask memory silence) ≡ true = asks_frame ask memory silence ∙ h in
       let o : values ≡ output_from m (call_of ask memory silence) = p.sounds ∙ puts_out ask m memory silence h in
       record {
         leaves = p.leaves;
-        hears = rw k (w ∙ ap (with_part sound at) (four_bytes values four e ∙ ap sample_bytes o));
-        counts = rw k refl;
-        refuses = refusal;
+        hears = rw k (w ∙ ap (λ (v : List ℤ). with_part sound at (sample_bytes v)) o);
+        answers = p.answers;
       }
 
-  pub another : is_frame_ask ask ≡ false → Makes m (call_of ask memory silence) sound at (record { frames = 0; refused = refused }) later sound
+  pub another : is_frame_ask ask ≡ false → Makes m (call_of ask memory silence) sound at answer later sound
   unfolding heard_at
   another h =
       let k : is_frame (call_of ask memory silence) ≡ false = asks_frame ask memory silence ∙ h in
       record {
         leaves = p.leaves;
         hears = rw k (same sound at);
-        counts = rw k refl;
-        refuses = refusal;
+        answers = p.answers;
       }

@@ -1,29 +1,30 @@
 -- Some calls of a score, one at a time.
--- In order: the calls that are left at a place, one call on or one command on (`left_call`, `left_next`), also for a command as the code has it
--- (`one_call`, `one_command`), and where none is left (`left_none`); what is heard of a run from its first call on (`heard-cons`), and what one call
--- counts for (`at_most_one`); a score while it is played (`Going`): it begins, one call more is made, and it ends (`over`). Assumes nothing.
+-- In order: the calls that are left at a place, one call on or one command on (`one_call`, `one_command`), and where none is left (`left_none`);
+-- what is heard of a run from its first call on (`heard-cons`); a score while it is played (`Going`): it begins, one call more is made, and it ends (`ended`). Assumes nothing.
 use mathlib.Core.Path.{◌≡◌, refl, sym, ap, subst, ◌∙◌}
 use mathlib.Core.Bool.{Bool, true, false, cond, true≢false}
 use mathlib.Core.List.{List, [], ◌∷◌, ◌++◌, append_assoc, append-nil}
-use Prim.Native.Nat.{ℕ, zero, suc, ◌+◌, ◌-◌, ◌*◌, ◌≤◌, ◌<◌}
+use Prim.Native.Nat.{ℕ, zero, suc, ◌+◌, ◌-◌, ◌*◌, ◌/◌, ◌≤◌, ◌<◌}
 use native.Mathlib.Nat.{add-zero, zero-add}
 use native.Mathlib.Omega.{arith}
+use borrow.Author.Tests.{lt-ltb, le-ltb, ne_eqb}
+use Rattle.std.specs.Prelude.{None, Some}
 use lib.IntN.{ℤ}
 use lib.ListN.{length, take, drop, replicate, length-append}
 use lib.Seq.{length-take-le, take-nil, drop-nil, take_at, drop_at, drop-drop}
 use Rattle.numbers.proofs.Tests.{cases}
 use Rattle.layout.specs.Bytes.{little_bytes}
 use Rattle.layout.proofs.Parts.{with_length}
-use Rattle.answer.specs.Answer.{is_done}
+use Rattle.answer.specs.Answer.{Answer, is_done}
 use Rattle.machine.specs.Words.{OUTPUT_VALUES}
 use Rattle.calls.specs.Calls.{Call, Reset, Write, Read, SetPot, Waiting, Frame, answer_to, after, output_from, run, answers, outputs}
 use Rattle.calls.specs.Asks.{call_of}
+use Rattle.calls.specs.declared.Ask.{Ask}
 use Rattle.repeats.specs.Repeats.{command_count}
-use Rattle.scores.specs.Score.{command_no, silence, calls_of, calls_from}
+use Rattle.scores.specs.Score.{command_no, silence, times_of, call_after, calls_of, calls_from}
 use Rattle.scores.specs.Sound.{SAMPLE_BYTES, sample_bytes, sound_of}
-use Rattle.scores.specs.Playing.{left_from, is_frame, frames_in, refusals, heard_from, heard_at, Makes}
+use Rattle.scores.specs.Playing.{left_from, is_frame, frames_in, refusals, heard_from, heard_at, Makes, Plays}
 use Rattle.scores.specs.declared.Command.{Command}
-use Rattle.scores.specs.declared.Made.{Made}
 use Rattle.scores.proofs.Making.{Long}
 
 -- ---- the calls that are left
@@ -34,45 +35,71 @@ drop-replicate x zero d rest h = absurd (omega arith)
 drop-replicate x (suc t) zero rest h = refl
 drop-replicate x (suc t) (suc d) rest h = drop-replicate x t d rest (omega arith)
 
-drop_all : (x : Call) (t : ℕ) (rest : List Call) → drop t (replicate t x ++ rest) ≡ rest
-drop_all x zero rest = refl
-drop_all x (suc t) rest = drop_all x t rest
+drop_replicated : (x : Call) (t : ℕ) (rest : List Call) → drop t (replicate t x ++ rest) ≡ rest
+drop_replicated x zero rest = refl
+drop_replicated x (suc t) rest = drop_replicated x t rest
 
-module _ (memory commands : List ℕ) (k : ℕ) (h : k < command_count commands) where
-  call : Call
-  call = call_of (command_no commands k).ask memory silence
+-- a command of which so many calls are made: there is one more, or these are all
+call_there : (c : Command) (made : ℕ) (a : Ask) → call_after c made ≡ Some a → made < times_of c
+unfolding call_after times_of
+call_there (Command.Once b) zero a e = omega arith
+call_there (Command.Once b) (suc n) a e = let g : None ≡ Some a = rw (ne_eqb (suc n) 0 (omega arith)) at e in absurd (cc)
+call_there (Command.Frames n) made a e = cases made n _ (λ l. l) (λ u. let g : None ≡ Some a = rw (le-ltb made n u) at e in absurd (cc))
+call_there Command.Nothing made a e = absurd (cc)
 
+none_there : (c : Command) (made : ℕ) → call_after c made ≡ None → made ≤ times_of c → made ≡ times_of c
+unfolding call_after times_of
+none_there (Command.Once b) zero e l = absurd (cc)
+none_there (Command.Once b) (suc n) e l = omega arith
+none_there (Command.Frames n) made e l = cases made n _ (λ k. let g : Some Ask.Frame ≡ None = rw (lt-ltb made n k) at e in absurd (cc)) (λ u. omega arith)
+none_there Command.Nothing made e l = omega arith
+
+module _ (memory : List ℕ) where
+  drop_call : (c : Command) (made : ℕ) (a : Ask) (rest : List Call) → call_after c made ≡ Some a
+      → drop made (calls_of memory c ++ rest) ≡ call_of a memory silence ∷ drop (suc made) (calls_of memory c ++ rest)
+  unfolding call_after calls_of
+  drop_call (Command.Once b) zero a rest e = let g : b ≡ a = cc in ap (λ (x : Ask). call_of x memory silence ∷ rest) g
+  drop_call (Command.Once b) (suc n) a rest e = let g : None ≡ Some a = rw (ne_eqb (suc n) 0 (omega arith)) at e in absurd (cc)
+  drop_call (Command.Frames n) made a rest e =
+      cases made n _
+      (λ l.
+      let f : Some Ask.Frame ≡ Some a = rw (lt-ltb made n l) at e in
+      let g : Ask.Frame ≡ a = cc in
+      drop-replicate (call_of Ask.Frame memory silence) n made rest l
+      ∙ ap (λ (x : Ask). call_of x memory silence ∷ drop (suc made) (replicate n (call_of Ask.Frame memory silence) ++ rest)) g)
+      (λ u. let g : None ≡ Some a = rw (le-ltb made n u) at e in absurd (cc))
+  drop_call Command.Nothing made a rest e = absurd (cc)
+
+  drop_all : (c : Command) (rest : List Call) → drop (times_of c) (calls_of memory c ++ rest) ≡ rest
+  unfolding times_of calls_of
+  drop_all (Command.Once a) rest = refl
+  drop_all (Command.Frames n) rest = drop_replicated (call_of Ask.Frame memory silence) n rest
+  drop_all Command.Nothing rest = refl
+
+-- a command as the code has it: one call of it more is made, or the next command comes
+module _ (memory commands : List ℕ) (k made : ℕ) (cmd : Command) (is : cmd ≡ command_no commands k) (h : k < command_count commands) where
   others : List Call
   others = calls_from memory commands (command_count commands - suc k) (suc k)
 
   -- the calls of the first command, and those of the others
-  here : calls_from memory commands (command_count commands - k) k ≡ replicate (command_no commands k).times call ++ others
-  unfolding calls_from calls_of call others
+  here : calls_from memory commands (command_count commands - k) k ≡ calls_of memory cmd ++ others
+  unfolding calls_from others
   here =
       let e : command_count commands - k ≡ suc (command_count commands - suc k) = omega arith in
-      rw e refl
+      rw (e, is) refl
 
-  pub left_call : (made : ℕ) → made < (command_no commands k).times
-      → left_from memory commands k made ≡ call_of (command_no commands k).ask memory silence ∷ left_from memory commands k (suc made)
-  unfolding call
-  left_call made l = rw here (drop-replicate call (command_no commands k).times made others l)
+  pub one_call : (a : Ask) → call_after cmd made ≡ Some a
+      → (left_from memory commands k made ≡ call_of a memory silence ∷ left_from memory commands k (made + 1)) × (made < times_of (command_no commands k))
+  one_call a e =
+      let q : made + 1 ≡ suc made = omega arith in
+      (rw (here, q) (drop_call memory cmd made a others e), subst (λ (c : Command). made < times_of c) is (call_there cmd made a e))
 
-  pub left_next : (made : ℕ) → made ≡ (command_no commands k).times → left_from memory commands k made ≡ left_from memory commands (suc k) 0
+  pub one_command : made ≤ times_of (command_no commands k) → call_after cmd made ≡ None → left_from memory commands k made ≡ left_from memory commands (k + 1) 0
   unfolding others
-  left_next made e = rw (here, e) (drop_all call (command_no commands k).times others)
-
--- a command as the code has it: one call of it more is made, or the next command comes
-module _ (memory commands : List ℕ) (k made : ℕ) (cmd : Command) (is : cmd ≡ command_no commands k) (h : k < command_count commands) where
-  pub one_call : made < cmd.times → left_from memory commands k made ≡ call_of cmd.ask memory silence ∷ left_from memory commands k (made + 1)
-  one_call l =
-      let e : made + 1 ≡ suc made = omega arith in
-      rw (is, e) (left_call memory commands k h made (subst (λ (x : Command). made < x.times) is l))
-
-  pub one_command : made ≤ (command_no commands k).times → cmd.times ≤ made → left_from memory commands k made ≡ left_from memory commands (k + 1) 0
-  one_command l u =
-      let v : (command_no commands k).times ≤ made = subst (λ (x : Command). x.times ≤ made) is u in
-      let e : k + 1 ≡ suc k = omega arith in
-      rw e (left_next memory commands k h made (omega arith))
+  one_command l e =
+      let m : made ≡ times_of cmd = none_there cmd made e (rw is l) in
+      let q : k + 1 ≡ suc k = omega arith in
+      rw (here, m, q) (drop_all memory cmd others)
 
 -- no command is left
 pub left_none : (memory commands : List ℕ) (k made : ℕ) → command_count commands ≤ k → left_from memory commands k made ≡ []
@@ -120,11 +147,6 @@ one_at_most : (b : Bool) → (cond b 1 0 ≤ 1) × (cond b 0 1 ≤ 1)
 one_at_most true = (omega arith, omega arith)
 one_at_most false = (omega arith, omega arith)
 
--- a call is one frame at most, and refused once at most
-pub at_most_one : {m : List ℕ} {c : Call} {sound : List ℕ} {at : ℕ} {one : Made} {later heard : List ℕ} → Makes m c sound at one later heard
-    → (one.frames ≤ 1) × (one.refused ≤ 1)
-at_most_one {m} {c} p = (rw p.counts (one_at_most (is_frame c)).0, rw p.refuses (one_at_most (is_done (answer_to m c))).1)
-
 -- ---- a score while it is played
 
 -- `calls` of `room` calls are made, and `cs` is what is left of `all`: what the first `room` come to is what was done and what the others come to
@@ -159,7 +181,7 @@ begins room all m sound =
 -- one call more
 module _ {room : ℕ} {all : List Call} {m₀ sound₀ : List ℕ} {c : Call} {cs : List Call} {m sound : List ℕ} {calls frames refused : ℕ}
     (g : Going room all m₀ sound₀ (c ∷ cs) m sound calls frames refused) (h : calls < room) (fits : SAMPLE_BYTES * room ≤ length sound₀)
-    (w : Long c) {one : Made} {later heard : List ℕ} (p : Makes m c sound (SAMPLE_BYTES * frames) one later heard) where
+    (w : Long c) {answer : Answer} {later heard : List ℕ} (p : Makes m c sound (SAMPLE_BYTES * frames) answer later heard) where
   xs : List Call
   xs = take (room - (calls + 1)) cs
 
@@ -170,13 +192,19 @@ module _ {room : ℕ} {all : List Call} {m₀ sound₀ : List ℕ} {c : Call} {c
       rw e refl
 
   -- how long the heard part is, and that it has room
-  long : length (heard_at m c) ≡ SAMPLE_BYTES * one.frames
-  long = rw p.counts (heard_long m c)
+  abbrev one : ℕ
+  one = cond (is_frame c) 1 0
+
+  abbrev refusal : ℕ
+  refusal = cond (is_done answer) 0 1
+
+  long : length (heard_at m c) ≡ SAMPLE_BYTES * one
+  long = heard_long m c
 
   room_for : SAMPLE_BYTES * frames + length (heard_at m c) ≤ length sound
-  room_for = rw (long, g.long) (omega (arith, (at_most_one p).0, g.frames_few))
+  room_for = rw (long, g.long) (omega (arith, (one_at_most (is_frame c)).0, g.frames_few))
 
-  so_far : length (take (SAMPLE_BYTES * frames) sound ++ heard_at m c) ≡ SAMPLE_BYTES * (frames + one.frames)
+  so_far : length (take (SAMPLE_BYTES * frames) sound ++ heard_at m c) ≡ SAMPLE_BYTES * (frames + one)
   so_far =
       length-append (take (SAMPLE_BYTES * frames) sound) (heard_at m c)
       ∙ rw (length-take-le (SAMPLE_BYTES * frames) sound (omega (arith, room_for)), long) (omega arith)
@@ -184,28 +212,28 @@ module _ {room : ℕ} {all : List Call} {m₀ sound₀ : List ℕ} {c : Call} {c
   joined : heard ≡ (take (SAMPLE_BYTES * frames) sound ++ heard_at m c) ++ drop (SAMPLE_BYTES * frames + length (heard_at m c)) sound
   joined = p.hears ∙ sym (append_assoc (take (SAMPLE_BYTES * frames) sound) (heard_at m c) (drop (SAMPLE_BYTES * frames + length (heard_at m c)) sound))
 
-  heard-part : take (SAMPLE_BYTES * (frames + one.frames)) heard ≡ take (SAMPLE_BYTES * frames) sound ++ heard_at m c
+  heard-part : take (SAMPLE_BYTES * (frames + one)) heard ≡ take (SAMPLE_BYTES * frames) sound ++ heard_at m c
   heard-part =
       rw joined
       (take_at (take (SAMPLE_BYTES * frames) sound ++ heard_at m c) (drop (SAMPLE_BYTES * frames + length (heard_at m c)) sound)
-      (SAMPLE_BYTES * (frames + one.frames)) so_far)
+      (SAMPLE_BYTES * (frames + one)) so_far)
 
-  after-part : drop (SAMPLE_BYTES * (frames + one.frames)) heard ≡ drop (SAMPLE_BYTES * frames + length (heard_at m c)) sound
+  after-part : drop (SAMPLE_BYTES * (frames + one)) heard ≡ drop (SAMPLE_BYTES * frames + length (heard_at m c)) sound
   after-part =
       rw joined
       (drop_at (take (SAMPLE_BYTES * frames) sound ++ heard_at m c) (drop (SAMPLE_BYTES * frames + length (heard_at m c)) sound)
-      (SAMPLE_BYTES * (frames + one.frames)) so_far)
+      (SAMPLE_BYTES * (frames + one)) so_far)
 
-  rest_part : drop (SAMPLE_BYTES * (frames + one.frames)) heard ≡ drop (SAMPLE_BYTES * (frames + one.frames)) sound₀
+  rest_part : drop (SAMPLE_BYTES * (frames + one)) heard ≡ drop (SAMPLE_BYTES * (frames + one)) sound₀
   rest_part =
-      let e : SAMPLE_BYTES * (frames + one.frames) ≡ SAMPLE_BYTES * frames + SAMPLE_BYTES * one.frames = omega arith in
-      let d : drop (SAMPLE_BYTES * frames + SAMPLE_BYTES * one.frames) sound ≡ drop (SAMPLE_BYTES * frames + SAMPLE_BYTES * one.frames) sound₀ =
-      sym (drop-drop (SAMPLE_BYTES * one.frames) (SAMPLE_BYTES * frames) sound)
-      ∙ ap (drop (SAMPLE_BYTES * one.frames)) g.stays
-      ∙ drop-drop (SAMPLE_BYTES * one.frames) (SAMPLE_BYTES * frames) sound₀ in
+      let e : SAMPLE_BYTES * (frames + one) ≡ SAMPLE_BYTES * frames + SAMPLE_BYTES * one = omega arith in
+      let d : drop (SAMPLE_BYTES * frames + SAMPLE_BYTES * one) sound ≡ drop (SAMPLE_BYTES * frames + SAMPLE_BYTES * one) sound₀ =
+      sym (drop-drop (SAMPLE_BYTES * one) (SAMPLE_BYTES * frames) sound)
+      ∙ ap (drop (SAMPLE_BYTES * one)) g.stays
+      ∙ drop-drop (SAMPLE_BYTES * one) (SAMPLE_BYTES * frames) sound₀ in
       after-part ∙ rw (long, e) d
 
-  pub next : Going room all m₀ sound₀ cs later heard (calls + 1) (frames + one.frames) (refused + one.refused)
+  pub next : Going room all m₀ sound₀ cs later heard (calls + 1) (frames + one) (refused + refusal)
   unfolding run frames_in refusals answers xs
   next =
       let u : frames_in (take room all) ≡ frames + (cond (is_frame c) 1 0 + frames_in xs) = g.counts ∙ ap (λ (l : List Call). frames + frames_in l) cut in
@@ -219,19 +247,19 @@ module _ {room : ℕ} {all : List Call} {m₀ sound₀ : List ℕ} {c : Call} {c
       (let e : room - calls ≡ suc (room - (calls + 1)) = omega arith in rw e refl) in
       record {
         leaves = g.leaves ∙ ap (run m) cut ∙ ap (λ (r : List ℕ). run r xs) (sym p.leaves);
-        counts = rw p.counts (omega (arith, u));
-        refuses = rw (p.refuses, p.leaves) (omega (arith, v));
+        counts = omega (arith, u);
+        refuses = rw (p.answers, p.leaves) (omega (arith, v));
         hears = rw (heard-part, p.leaves) y;
         stays = rest_part;
         goes = g.goes ∙ z;
         long = rw p.hears (with_length sound (SAMPLE_BYTES * frames) (heard_at m c) room_for ∙ g.long);
-        frames_few = omega (arith, (at_most_one p).0, g.frames_few);
-        refused_few = omega (arith, (at_most_one p).1, g.refused_few);
+        frames_few = omega (arith, (one_at_most (is_frame c)).0, g.frames_few);
+        refused_few = omega (arith, (one_at_most (is_done answer)).1, g.refused_few);
         sum = omega (arith, g.sum);
       }
 
 -- all calls that there is room for are made, or none is left
-pub over : (room calls : ℕ) (cs : List Call) → (calls < room → cs ≡ []) → (take (room - calls) cs ≡ []) × (drop (room - calls) cs ≡ cs)
+over : (room calls : ℕ) (cs : List Call) → (calls < room → cs ≡ []) → (take (room - calls) cs ≡ []) × (drop (room - calls) cs ≡ cs)
 over room calls cs none =
     cases calls room _
     (λ l. rw (none l) (take-nil (room - calls), drop-nil (room - calls)))
@@ -239,19 +267,19 @@ over room calls cs none =
 
 module _ {room : ℕ} {all : List Call} {m₀ sound₀ : List ℕ} {cs : List Call} {m sound : List ℕ} {calls frames refused : ℕ}
     (g : Going room all m₀ sound₀ cs m sound calls frames refused) (none : take (room - calls) cs ≡ []) (rest : drop (room - calls) cs ≡ cs) where
-  pub leaves_end : m ≡ run m₀ (take room all)
+  leaves_end : m ≡ run m₀ (take room all)
   unfolding run
   leaves_end = sym (g.leaves ∙ ap (run m) none)
 
-  pub counts_end : frames ≡ frames_in (take room all)
+  counts_end : frames ≡ frames_in (take room all)
   unfolding frames_in
   counts_end = sym (g.counts ∙ ap (λ (l : List Call). frames + frames_in l) none ∙ add-zero frames)
 
-  pub refuses_end : refused ≡ refusals (answers m₀ (take room all))
+  refuses_end : refused ≡ refusals (answers m₀ (take room all))
   unfolding refusals answers
   refuses_end = sym (g.refuses ∙ ap (λ (l : List Call). refused + refusals (answers m l)) none ∙ add-zero refused)
 
-  pub hears_end : take (SAMPLE_BYTES * frames) sound ≡ heard_from m₀ (take room all)
+  hears_end : take (SAMPLE_BYTES * frames) sound ≡ heard_from m₀ (take room all)
   unfolding heard_from frames_in outputs sound_of
   hears_end =
       sym
@@ -259,5 +287,26 @@ module _ {room : ℕ} {all : List Call} {m₀ sound₀ : List ℕ} {cs : List Ca
       ∙ ap (λ (l : List Call). take (SAMPLE_BYTES * frames) sound ++ heard_from m l) none
       ∙ append-nil (take (SAMPLE_BYTES * frames) sound))
 
-  pub goes_end : cs ≡ drop room all
+  goes_end : cs ≡ drop room all
   goes_end = sym (g.goes ∙ rest)
+
+-- and that is what playing promises
+pub ended : {memory commands m₀ sound₀ m sound : List ℕ} {k₀ made₀ k made calls frames refused : ℕ}
+    → Going (length sound₀ / SAMPLE_BYTES) (left_from memory commands k₀ made₀) m₀ sound₀ (left_from memory commands k made) m sound calls frames refused
+    → calls ≤ length sound₀ / SAMPLE_BYTES → made ≤ times_of (command_no commands k) → (calls < length sound₀ / SAMPLE_BYTES → command_count commands ≤ k)
+    → Plays m₀ memory commands k₀ made₀ sound₀ (record { position = record { command = k; made = made }; frames = frames; refused = refused }) m sound
+ended {memory} {commands} {sound₀} {k} {made} {calls} g few within stop =
+    let room = length sound₀ / SAMPLE_BYTES in
+    let left = left_from memory commands k made in
+    let o = over room calls left (λ h. left_none memory commands k made (stop h)) in
+    record {
+      leaves = leaves_end g o.0 o.1;
+      counts = counts_end g o.0 o.1;
+      refuses = refuses_end g o.0 o.1;
+      hears = hears_end g o.0 o.1;
+      stays = g.stays;
+      goes = goes_end g o.0 o.1;
+      fits = omega (arith, g.frames_few);
+      within = within;
+      ends = λ h. cases calls room _ (λ l. absurd (let none = stop l in omega arith)) (λ u. omega (arith, g.sum));
+    }

@@ -17,6 +17,7 @@ use Rattle.layout.specs.Bytes.{little_bytes}
 use Rattle.machine.specs.Words.{OUTPUT_VALUES}
 use Rattle.calls.specs.Calls.{Call, after, run, outputs}
 use Rattle.calls.specs.Asks.{call_of}
+use Rattle.calls.specs.declared.Ask.{Ask}
 use Rattle.repeats.specs.Repeats.{command_count}
 use Rattle.scores.specs.Score.{silence, command_no, calls_of, calls_from, commands_of, all_calls, score_calls, is_frame_ask, frames_of, all_frames, score_frames}
 use Rattle.scores.specs.Sound.{SAMPLE_BYTES, sample_bytes, sound_of}
@@ -49,12 +50,18 @@ drop_long zero cs a = a
 drop_long (suc n) [] a = tt
 drop_long (suc n) (c ∷ cs) a = drop_long n cs a.1
 
+command_long : (memory : List ℕ) (c : Command) → AllLong (calls_of memory c)
+unfolding calls_of
+command_long memory (Command.Once a) = (call_long a memory, tt)
+command_long memory (Command.Frames n) = replicate_long n (call_of Ask.Frame memory silence) (call_long Ask.Frame memory)
+command_long memory Command.Nothing = tt
+
 calls_long : (memory commands : List ℕ) (n k : ℕ) → AllLong (calls_from memory commands n k)
-unfolding calls_from calls_of
+unfolding calls_from
 calls_long memory commands zero k = tt
 calls_long memory commands (suc n) k =
     both_long (calls_of memory (command_no commands k)) (calls_from memory commands n (suc k))
-    (replicate_long (command_no commands k).times (call_of (command_no commands k).ask memory silence) (call_long (command_no commands k).ask memory))
+    (command_long memory (command_no commands k))
     (calls_long memory commands n (suc k))
 
 -- ---- what is heard
@@ -84,13 +91,13 @@ in_parts m memory commands k made n =
 module _ {m memory commands : List ℕ} {k made : ℕ} {sound : List ℕ} {r : Played} {later heard : List ℕ}
     (p : Plays m memory commands k made sound r later heard) where
   pub part-heard : heard_from m (left_from memory commands k made)
-      ≡ take (SAMPLE_BYTES * r.frames) heard ++ heard_from later (left_from memory commands r.command r.made)
+      ≡ take (SAMPLE_BYTES * r.frames) heard ++ heard_from later (left_from memory commands r.position.command r.position.made)
   part-heard = in_parts m memory commands k made (length sound / SAMPLE_BYTES) ∙ rw (p.hears, p.leaves, p.goes) refl
 
   -- two outcomes are equal, but that the place in the score may have another name: the calls that are left are the same
   pub one_part : {s : Played} {later' heard' : List ℕ} → Plays m memory commands k made sound s later' heard'
       → (later ≡ later') × (heard ≡ heard') × (r.frames ≡ s.frames) × (r.refused ≡ s.refused)
-      × (left_from memory commands r.command r.made ≡ left_from memory commands s.command s.made)
+      × (left_from memory commands r.position.command r.position.made ≡ left_from memory commands s.position.command s.position.made)
   one_part {s} {heard'} q =
       let f : r.frames ≡ s.frames = p.counts ∙ sym q.counts in
       let t : take (SAMPLE_BYTES * r.frames) heard ≡ take (SAMPLE_BYTES * r.frames) heard' =
@@ -111,7 +118,7 @@ unfolding parts_heard
 parts_heard_lem [] m memory commands k made none = sym (ap (heard_from m) (left_none memory commands k made none) ∙ none_heard m)
 parts_heard_lem (p ∷ ps) m memory commands k made plays =
     ap (λ (l : List ℕ). take (SAMPLE_BYTES * p.played.frames) p.heard ++ l)
-    (parts_heard_lem ps p.later memory commands p.played.command p.played.made plays.1)
+    (parts_heard_lem ps p.later memory commands p.played.position.command p.played.position.made plays.1)
     ∙ sym (part-heard plays.0)
 
 -- and from its start on
@@ -148,8 +155,10 @@ frames_replicate c true e (suc n) = rw e (omega (arith, frames_replicate c true 
 frames_replicate c false e (suc n) = rw e (omega (arith, frames_replicate c false e n))
 
 frames_of_command : (memory : List ℕ) (c : Command) → frames_in (calls_of memory c) ≡ frames_of c
-unfolding calls_of frames_of
-frames_of_command memory c = frames_replicate (call_of c.ask memory silence) (is_frame_ask c.ask) (asks_frame c.ask memory silence) c.times
+unfolding calls_of frames_of frames_in is_frame
+frames_of_command memory (Command.Once a) = add-zero _ ∙ ap (λ (b : Bool). cond b 1 0) (asks_frame a memory silence)
+frames_of_command memory (Command.Frames n) = frames_replicate (call_of Ask.Frame memory silence) true refl n
+frames_of_command memory Command.Nothing = refl
 
 -- of n commands, from command k on
 frames_from : (memory commands : List ℕ) (n k : ℕ) → frames_in (calls_from memory commands n k) ≡ sum n (λ i. frames_of (command_no commands (k + i)))

@@ -7,9 +7,8 @@ use Rattle.answer.specs.Answer.{Answer, is_done}
 use Rattle.machine.specs.Words.{RECORD_WORDS}
 use Rattle.calls.specs.Calls.{Call, Reset, Write, Read, SetPot, Waiting, Frame, answer_to, after, output_from, run, answers, outputs}
 use Rattle.repeats.specs.Repeats.{command_count}
-use Rattle.scores.specs.Score.{calls_from, score_calls, command_no}
+use Rattle.scores.specs.Score.{calls_from, score_calls, command_no, times_of}
 use Rattle.scores.specs.Sound.{SAMPLE_BYTES, sample_bytes, sound_of}
-use Rattle.scores.specs.declared.Made.{Made}
 use Rattle.scores.specs.declared.Played.{Played}
 
 -- the calls that are left at command k, where so many of its own are made
@@ -53,11 +52,10 @@ unfoldable pub heard_at : List ℕ → Call → List ℕ
 heard_at m c = cond (is_frame c) (sample_bytes (output_from m c)) []
 
 -- it is made, and what is heard of it put at a place of the sound
-pub record Makes (m : List ℕ) (c : Call) (sound : List ℕ) (at : ℕ) (r : Made) (later heard : List ℕ) : Type 0 where
+pub record Makes (m : List ℕ) (c : Call) (sound : List ℕ) (at : ℕ) (answer : Answer) (later heard : List ℕ) : Type 0 where
   pub leaves : later ≡ after m c
   pub hears : heard ≡ with_part sound at (heard_at m c)
-  pub counts : r.frames ≡ cond (is_frame c) 1 0
-  pub refuses : r.refused ≡ cond (is_done (answer_to m c)) 0 1
+  pub answers : answer ≡ answer_to m c
 
 -- ---- as many calls as the sound has room for, from a place of the score on; fewer only where no command is left
 
@@ -70,10 +68,10 @@ pub record Plays (m memory commands : List ℕ) (k made : ℕ) (sound : List ℕ
   pub refuses : r.refused ≡ refusals (answers m (next_calls memory commands k made sound))
   pub hears : take (SAMPLE_BYTES * r.frames) heard ≡ heard_from m (next_calls memory commands k made sound)
   pub stays : drop (SAMPLE_BYTES * r.frames) heard ≡ drop (SAMPLE_BYTES * r.frames) sound
-  pub goes : left_from memory commands r.command r.made ≡ drop (length sound / SAMPLE_BYTES) (left_from memory commands k made)
+  pub goes : left_from memory commands r.position.command r.position.made ≡ drop (length sound / SAMPLE_BYTES) (left_from memory commands k made)
   pub fits : SAMPLE_BYTES * r.frames ≤ length sound
-  pub within : r.made ≤ (command_no commands r.command).times
-  pub ends : r.command < command_count commands → length sound / SAMPLE_BYTES ≤ length (left_from memory commands k made)
+  pub within : r.position.made ≤ times_of (command_no commands r.position.command)
+  pub ends : r.position.command < command_count commands → length sound / SAMPLE_BYTES ≤ length (left_from memory commands k made)
 
 -- ---- a score in parts, one after the other, until no command is left
 
@@ -87,7 +85,7 @@ pub record Part : Type 0 where
 abbrev pub PlaysAll : List ℕ → List ℕ → List ℕ → ℕ → ℕ → List Part → Type 0
 PlaysAll m memory commands k made [] = command_count commands ≤ k
 PlaysAll m memory commands k made (p ∷ ps) =
-    Plays m memory commands k made p.sound p.played p.later p.heard × PlaysAll p.later memory commands p.played.command p.played.made ps
+    Plays m memory commands k made p.sound p.played p.later p.heard × PlaysAll p.later memory commands p.played.position.command p.played.position.made ps
 
 unfoldable pub parts_heard : List Part → List ℕ
 parts_heard [] = []

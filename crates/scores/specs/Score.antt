@@ -1,7 +1,7 @@
--- A score: the words of sample memory at its start, and its commands, in full; which call a command asks for, and how often; the calls of all
+-- A score: the words of sample memory at its start, and its commands, in full; which calls a command makes; the calls of all
 -- commands; how many frames these are; whether a score is good. In that order. How commands stand in bytes, and what one that repeats others stands
 -- for, is `repeats`. Assumes nothing.
-use Rattle.std.specs.Prelude.{ℕ, zero, suc, ◌*◌, ◌%◌, ◌-◌, ◌<◌, ◌≡◌, Bool, true, false, cond, not, ◌&&◌, List, [], ◌++◌, eqb, ltb, ℤ, pos, length, get_or, drop, replicate}
+use Rattle.std.specs.Prelude.{ℕ, zero, suc, ◌*◌, ◌%◌, ◌-◌, ◌<◌, ◌≡◌, Bool, true, false, cond, not, ◌&&◌, List, [], ◌∷◌, ◌++◌, eqb, ltb, ℤ, pos, length, get_or, drop, replicate, Option, None, Some, Result, Ok, Err}
 use Rattle.numbers.specs.Sum.{sum}
 use Rattle.layout.specs.Bytes.{big2_at}
 use Rattle.repeats.specs.Repeats.{COMMAND_BYTES, command_count, kind_at, number_at, byte_at, REPEAT, in_full}
@@ -11,8 +11,9 @@ use Rattle.calls.specs.Asks.{call_of}
 use Rattle.calls.specs.declared.Ask.{Ask}
 use Rattle.calls.specs.declared.Ask.TheVariants.{Reset, Write, Read, SetPot, Waiting, Frame}
 use Rattle.scores.specs.declared.Command.{Command}
-use Rattle.scores.specs.declared.Verdict.{Verdict}
-use Rattle.scores.specs.declared.Verdict.TheVariants.{Good, TooLong, NoMemory, Cut, TooManyCommands, Unknown, NotThere, TooManyFrames}
+use Rattle.scores.specs.declared.Command.TheVariants.{Once, Frames, Nothing}
+use Rattle.scores.specs.declared.ScoreError.{ScoreError}
+use Rattle.scores.specs.declared.ScoreError.TheVariants.{TooLong, NoMemory, Cut, TooManyCommands, Unknown, NotThere, TooManyFrames}
 
 abbrev pub MEMORY_BYTES : ℕ
 MEMORY_BYTES = 8192
@@ -27,20 +28,27 @@ commands_of score = in_full (drop MEMORY_BYTES score)
 
 -- ---- a command
 
--- a call that is made so often
-abbrev pub call_times : Ask → ℕ → Command
-call_times a n = record { ask = a; times = n }
-
 -- kinds 0 to 5 are a call that is made once, 6 is n frames, and another kind no call
 unfoldable pub command_of : ℕ → ℕ → ℕ → Command
 command_of kind n byte =
-    cond (eqb kind 0) (call_times Reset 1)
-    (cond (eqb kind 1) (call_times (Write n byte) 1)
-    (cond (eqb kind 2) (call_times (Read n) 1)
-    (cond (eqb kind 3) (call_times (SetPot n) 1)
-    (cond (eqb kind 4) (call_times Frame 1)
-    (cond (eqb kind 5) (call_times Waiting 1)
-    (cond (eqb kind 6) (call_times Frame n) (call_times Frame 0)))))))
+    cond (eqb kind 0) (Once Reset)
+    (cond (eqb kind 1) (Once (Write n byte))
+    (cond (eqb kind 2) (Once (Read n))
+    (cond (eqb kind 3) (Once (SetPot n))
+    (cond (eqb kind 4) (Once Frame)
+    (cond (eqb kind 5) (Once Waiting)
+    (cond (eqb kind 6) (Frames n) Nothing))))))
+
+-- how many calls it makes, and which one where so many of them are made
+unfoldable pub times_of : Command → ℕ
+times_of (Once a) = 1
+times_of (Frames n) = n
+times_of Nothing = 0
+
+unfoldable pub call_after : Command → ℕ → Option Ask
+call_after (Once a) made = cond (eqb made 0) (Some a) None
+call_after (Frames n) made = cond (ltb made n) (Some Frame) None
+call_after Nothing made = None
 
 -- the command whose bytes begin at i, and command k of all, which are counted from 0
 abbrev pub command_at : List ℕ → ℕ → Command
@@ -57,7 +65,9 @@ silence = replicate OUTPUT_VALUES (pos 0)
 
 -- a command's calls
 unfoldable pub calls_of : List ℕ → Command → List Call
-calls_of memory c = replicate c.times (call_of c.ask memory silence)
+calls_of memory (Once a) = call_of a memory silence ∷ []
+calls_of memory (Frames n) = replicate n (call_of Frame memory silence)
+calls_of memory Nothing = []
 
 -- those of n commands, from command k on
 unfoldable pub calls_from : List ℕ → List ℕ → ℕ → ℕ → List Call
@@ -82,7 +92,9 @@ is_frame_ask Waiting = false
 is_frame_ask Frame = true
 
 unfoldable pub frames_of : Command → ℕ
-frames_of c = cond (is_frame_ask c.ask) c.times 0
+frames_of (Once a) = cond (is_frame_ask a) 1 0
+frames_of (Frames n) = n
+frames_of Nothing = 0
 
 unfoldable pub all_frames : List ℕ → ℕ
 all_frames commands = sum (command_count commands) (λ k. frames_of (command_no commands k))
@@ -91,6 +103,13 @@ abbrev pub score_frames : List ℕ → ℕ
 score_frames score = all_frames (commands_of score)
 
 -- ---- whether a score is good
+
+-- good, or what is wrong with it
+abbrev pub Verdict : Type 0
+Verdict = Result (Unit {0}) ScoreError
+
+abbrev pub Good : Verdict
+Good = Ok tt
 
 abbrev pub MOST_BYTES : ℕ
 MOST_BYTES = 65536
@@ -118,15 +137,15 @@ all_below kind commands = first_below kind commands (command_count commands)
 -- of commands in full: the first of these that holds; a repeat is still there where its commands are not
 unfoldable pub commands_verdict : List ℕ → Verdict
 commands_verdict commands =
-    cond (not (all_below KINDS commands)) Unknown
-    (cond (not (all_below REPEAT commands)) NotThere
-    (cond (ltb MOST_FRAMES (all_frames commands)) TooManyFrames Good))
+    cond (not (all_below KINDS commands)) (Err Unknown)
+    (cond (not (all_below REPEAT commands)) (Err NotThere)
+    (cond (ltb MOST_FRAMES (all_frames commands)) (Err TooManyFrames) Good))
 
 -- of a score
 unfoldable pub verdict_of : List ℕ → Verdict
 verdict_of score =
-    cond (ltb MOST_BYTES (length score)) TooLong
-    (cond (ltb (length score) MEMORY_BYTES) NoMemory
-    (cond (not (eqb ((length score - MEMORY_BYTES) % COMMAND_BYTES) 0)) Cut
-    (cond (ltb MOST_FULL_BYTES (length (commands_of score))) TooManyCommands
+    cond (ltb MOST_BYTES (length score)) (Err TooLong)
+    (cond (ltb (length score) MEMORY_BYTES) (Err NoMemory)
+    (cond (not (eqb ((length score - MEMORY_BYTES) % COMMAND_BYTES) 0)) (Err Cut)
+    (cond (ltb MOST_FULL_BYTES (length (commands_of score))) (Err TooManyCommands)
     (commands_verdict (commands_of score)))))

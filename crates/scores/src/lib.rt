@@ -11,22 +11,20 @@
 //! commands in full, which `repeats::put_in_full` gives.
 #![tactic(auto)]
 
-ghost use Rattle.std.specs.Prelude.{◌≡◌, ◌+◌, ◌*◌, ◌/◌, ◌≤◌, ◌<◌, ◌^◌, length, ◌+ℤ◌, nat_abs, cond};
-ghost use Rattle.numbers.specs.Numbers.{word, signed};
-ghost use Rattle.answer.specs.Answer.{is_done};
-ghost use Rattle.machine.specs.Words.{OUTPUT_VALUES};
+ghost use Rattle.std.specs.Prelude.{◌≡◌, ◌+◌, ◌*◌, ◌/◌, ◌≤◌, ◌<◌, length, ◌+ℤ◌};
+ghost use Rattle.numbers.specs.Numbers.{word};
+ghost use Rattle.answer.specs.Answer.{answer_of};
 ghost use Rattle.calls.specs.Asks.{call_of};
 ghost use Rattle.layout.specs.Parts.{with_part};
-ghost use Rattle.repeats.specs.Repeats.{COMMAND_BYTES};
-ghost use Rattle.scores.specs.Score.{MOST_FULL_BYTES, Filled, commands_of, call_times, command_of, command_at, command_no, silence, is_frame_ask, frames_of, all_frames};
-ghost use Rattle.scores.specs.Score.{all_below, commands_verdict, verdict_of};
+ghost use Rattle.scores.specs.Score.{MOST_FULL_BYTES, Filled, commands_of, command_at, command_no, times_of, call_after, silence, is_frame_ask, frames_of, all_frames};
+ghost use Rattle.scores.specs.Score.{Good, all_below, commands_verdict, verdict_of};
 ghost use Rattle.scores.specs.Sound.{SAMPLE_BYTES, heard_of, sample_bytes, loudest_of};
 ghost use Rattle.scores.specs.Playing.{Makes, Plays};
-ghost use Rattle.scores.specs.declared.Verdict.TheVariants.{Good};
 
-use answer::Answer;
+use answer::Refusal;
 use calls::Ask;
 use repeats::COMMAND_BYTES;
+use thiserror::Error;
 
 pub const MEMORY_WORDS: usize = 4096;
 
@@ -50,59 +48,69 @@ pub const SAMPLE_BYTES: usize = 4;
 /// Four bytes each are at most what a WAVE file holds.
 pub const MOST_FRAMES: u64 = 1073741814;
 
-// ---- a command: a call, and how many times it is made
+// ---- a command: which calls it makes
 
 #[derive(Clone, Copy, Debug, PartialEq, Eq)]
-pub struct Command {
-    pub ask: Ask,
-    pub times: u32,
+pub enum Command {
+    /// A call that is made once.
+    Once(Ask),
+    /// So many frames.
+    Frames(u16),
+    /// No call: a command of another kind, or a repeat that stands for itself.
+    Nothing,
 }
 
-/// The command whose bytes begin at `at`.
-pub fn command_at(commands: &[u8], at: usize) -> Command
-    requires { at + COMMAND_BYTES ≤ length commands.now }
-    ensures { result ≡ command_at commands.now at }
-{
-    let n = layout::big2_at(commands, at + 1) as u32;
-    command_of(commands[at], n, commands[at + 3])
-}
+impl From<[u8; COMMAND_BYTES]> for Command {
+    ghost from_gives = { λ bytes command. command ≡ command_at bytes 0 };
 
-// A command of another kind makes no call, and neither does a repeat that stands for itself.
-fn command_of(kind: u8, n: u32, byte: u8) -> Command
-    ensures { result ≡ command_of kind n byte }
-{
-    match kind {
-        0 => call_times(Ask::Reset, 1),
-        1 => call_times(Ask::Write(n, byte), 1),
-        2 => call_times(Ask::Read(n), 1),
-        3 => call_times(Ask::SetPot(n), 1),
-        4 => call_times(Ask::Frame, 1),
-        5 => call_times(Ask::Waiting, 1),
-        6 => call_times(Ask::Frame, n),
-        _ => call_times(Ask::Frame, 0),
+    #[tactic(auto, using(repeats::proofs::Command::number_is), unfolding(crate::specs::Score::command_of))]
+    fn from(bytes: [u8; COMMAND_BYTES]) -> Self {
+        let [kind, high, low, byte] = bytes;
+        let number = u16::from_be_bytes([high, low]);
+        match kind {
+            0 => Command::Once(Ask::Reset),
+            1 => Command::Once(Ask::Write(u32::from(number), byte)),
+            2 => Command::Once(Ask::Read(u32::from(number))),
+            3 => Command::Once(Ask::SetPot(u32::from(number))),
+            4 => Command::Once(Ask::Frame),
+            5 => Command::Once(Ask::Waiting),
+            6 => Command::Frames(number),
+            _ => Command::Nothing,
+        }
     }
 }
 
-fn call_times(ask: Ask, times: u32) -> Command
-    ensures { result ≡ call_times ask times }
-{
-    Command {
-        ask: ask,
-        times: times,
+impl Command {
+    #[tactic(auto, unfolding(crate::specs::Score::call_after))]
+    /// The call that it makes where so many of its calls are made; none where these are all.
+    pub fn call(self, made: u32) -> Option<Ask>
+        ensures { result ≡ call_after self made }
+    {
+        match self {
+            Command::Once(ask) if made == 0 => Some(ask),
+            Command::Frames(count) if made < u32::from(count) => Some(Ask::Frame),
+            _ => None,
+        }
+    }
+
+    #[tactic(auto, unfolding(crate::specs::Score::frames_of))]
+    fn frames(self) -> u64
+        ensures value { result ≡ frames_of self }
+        ensures few { result < 65536 }
+    {
+        match self {
+            Command::Once(ask) => u64::from(is_frame(ask)),
+            Command::Frames(count) => u64::from(count),
+            Command::Nothing => 0,
+        }
     }
 }
 
+#[tactic(auto, unfolding(crate::specs::Score::is_frame_ask))]
 fn is_frame(ask: Ask) -> bool
     ensures { result ≡ is_frame_ask ask }
 {
-    match ask {
-        Ask::Reset => false,
-        Ask::Write(_, _) => false,
-        Ask::Read(_) => false,
-        Ask::SetPot(_) => false,
-        Ask::Waiting => false,
-        Ask::Frame => true,
-    }
+    matches!(ask, Ask::Frame)
 }
 
 // ---- the memory
@@ -112,8 +120,9 @@ pub fn fill(memory: &mut [u16], score: &[u8])
     requires { 2 * length memory.old ≤ length score.now }
     ensures { Filled (length memory.old) score.now memory.new }
 {
-    for i in 0..memory.len() {
-        memory[i] = layout::big2_at(score, 2 * i);
+    let (words, _) = score.as_chunks::<2>();
+    for (i, word) in memory.iter_mut().enumerate() {
+        *word = u16::from_be_bytes(words[i]);
     }
 }
 
@@ -123,90 +132,83 @@ pub fn frames_of(commands: &[u8]) -> u64
     requires { length commands.now ≤ MOST_FULL_BYTES }
     ensures { result ≡ all_frames commands.now }
 {
+    let (whole, _) = commands.as_chunks::<COMMAND_BYTES>();
     let mut n = 0;
-    for k in 0..commands.len() / COMMAND_BYTES {
-        n += command_frames(command_at(commands, COMMAND_BYTES * k));
+    for command in whole {
+        n += Command::from(*command).frames();
     }
     n
 }
 
-fn command_frames(c: Command) -> u64
-    ensures { (result ≡ frames_of c) × (result < 2 ^ 32) }
-{
-    let ask = c.ask;
-    if is_frame(ask) { c.times as u64 } else { 0 }
-}
-
 // ---- whether a score is good
 
-#[derive(Clone, Copy, Debug, PartialEq, Eq)]
-pub enum Verdict {
-    Good,
-    /// It has more bytes than a score may have.
+/// What is wrong with a score.
+#[derive(Clone, Copy, Debug, PartialEq, Eq, Hash, Error)]
+pub enum ScoreError {
+    #[error("the score has more than 65,536 bytes")]
     TooLong,
-    /// It ends before its sample memory does.
+    #[error("the score ends before its 8,192 bytes of sample memory do")]
     NoMemory,
-    /// Its last command has fewer than four bytes.
+    #[error("the score ends within a command")]
     Cut,
-    /// In full it has more commands than a score may have.
+    #[error("the score has more than 65,536 commands in full")]
     TooManyCommands,
-    /// A command is of a kind that there is not.
+    #[error("a command is of an unknown kind")]
     Unknown,
-    /// A repeat goes back past the first command, or asks for more than it goes back by.
+    #[error("a repeat goes back past the first command, or asks for more than it goes back by")]
     NotThere,
-    /// A WAVE file does not hold them.
+    #[error("the score has more frames than a WAVE file holds")]
     TooManyFrames,
 }
 
 /// Where the score is good, its commands stand in full at the start of `full` then; else what
 /// stands there says nothing.
-pub fn judge(score: &[u8], full: &mut [u8]) -> Verdict
+#[tactic(auto, using(crate::proofs::Judged::too_long, crate::proofs::Judged::no_memory, crate::proofs::Judged::cut, crate::proofs::Judged::too_many))]
+pub fn judge(score: &[u8], full: &mut [u8]) -> Result<(), ScoreError>
     requires { length full.old ≡ MOST_FULL_BYTES }
     ensures value { result ≡ verdict_of score.now }
     ensures full_after { verdict_of score.now ≡ Good → full.new ≡ with_part full.old 0 (commands_of score.now) }
 {
-    let n = score.len();
-    if MOST_BYTES < n {
-        return Verdict::TooLong;
+    if MOST_BYTES < score.len() {
+        return Err(ScoreError::TooLong);
     }
-    if n < MEMORY_BYTES {
-        return Verdict::NoMemory;
+    if score.len() < MEMORY_BYTES {
+        return Err(ScoreError::NoMemory);
     }
-    if (n - MEMORY_BYTES) % COMMAND_BYTES != 0 {
-        return Verdict::Cut;
+    let commands = &score[MEMORY_BYTES..];
+    if commands.len() % COMMAND_BYTES != 0 {
+        return Err(ScoreError::Cut);
     }
-    if MOST_FULL_BYTES < repeats::full_bytes(&score[MEMORY_BYTES..]) {
-        return Verdict::TooManyCommands;
+    if MOST_FULL_BYTES < repeats::full_bytes(commands) {
+        return Err(ScoreError::TooManyCommands);
     }
-    let bytes = repeats::put_in_full(&score[MEMORY_BYTES..], full);
+    let bytes = repeats::put_in_full(commands, full);
     judge_commands(&full[..bytes])
 }
 
-fn judge_commands(commands: &[u8]) -> Verdict
+#[tactic(auto, unfolding(crate::specs::Score::commands_verdict))]
+fn judge_commands(commands: &[u8]) -> Result<(), ScoreError>
     requires { length commands.now ≤ MOST_FULL_BYTES }
     ensures { result ≡ commands_verdict commands.now }
 {
     if !all_below(KINDS, commands) {
-        return Verdict::Unknown;
+        return Err(ScoreError::Unknown);
     }
     if !all_below(repeats::REPEAT, commands) {
-        return Verdict::NotThere;
+        return Err(ScoreError::NotThere);
     }
     if MOST_FRAMES < frames_of(commands) {
-        return Verdict::TooManyFrames;
+        return Err(ScoreError::TooManyFrames);
     }
-    Verdict::Good
+    Ok(())
 }
 
 // Whether each command is of a kind below this one.
 fn all_below(kind: u8, commands: &[u8]) -> bool
     ensures { result ≡ all_below kind commands.now }
 {
-    let mut below = true;
-    for k in 0..commands.len() / COMMAND_BYTES {
-        below = below & (commands[COMMAND_BYTES * k] < kind);
-    }
-    below
+    let (whole, _) = commands.as_chunks::<COMMAND_BYTES>();
+    whole.iter().all(|command| command[0] < kind)
 }
 
 // ---- what is heard of a frame
@@ -220,12 +222,11 @@ fn heard(a: i32, b: i32, c: i32, d: i32, e: i32, f: i32) -> u16
 }
 
 // The four bytes of a frame's sound.
-fn sample_bytes(out: &[i32]) -> [u8; 4]
-    requires { length out.now ≡ OUTPUT_VALUES }
+fn sample_bytes(out: &[i32; machine::OUTPUT_VALUES]) -> [u8; SAMPLE_BYTES]
     ensures { result ≡ sample_bytes out.now }
 {
-    let l = layout::little_bytes2(heard(out[0], out[2], out[4], out[6], out[8], out[10]));
-    let r = layout::little_bytes2(heard(out[1], out[3], out[5], out[7], out[9], out[11]));
+    let l = heard(out[0], out[2], out[4], out[6], out[8], out[10]).to_le_bytes();
+    let r = heard(out[1], out[3], out[5], out[7], out[9], out[11]).to_le_bytes();
     [l[0], l[1], r[0], r[1]]
 }
 
@@ -233,115 +234,87 @@ fn sample_bytes(out: &[i32]) -> [u8; 4]
 pub fn loudest(sound: &[u8], before: u32) -> u32
     ensures { result ≡ loudest_of sound.now (length sound.now / 2) before }
 {
-    let mut most = before;
-    for i in 0..sound.len() / 2 {
-        let z = magnitude(layout::little2_at(sound, 2 * i));
-        if most < z {
-            most = z;
-        }
-    }
-    most
-}
-
-// How far a sample is from 0.
-fn magnitude(w: u16) -> u32
-    ensures { result ≡ nat_abs (signed 16 w) }
-{
-    if w < 32768 {
-        w as u32
-    } else {
-        65536 - w as u32
-    }
+    let (samples, _) = sound.as_chunks::<2>();
+    samples.iter().fold(before, |most, sample| {
+        most.max(u32::from(i16::from_le_bytes(*sample).unsigned_abs()))
+    })
 }
 
 // ---- a score played
 
-// What one call comes to: 1 where it was a frame, and 1 where it was refused.
-#[derive(Clone, Copy, Debug, PartialEq, Eq)]
-struct Made {
-    pub frames: usize,
-    pub refused: usize,
-}
-
-// The call, made once; what is heard of it is put at `at`.
-fn make(m: &mut [u32], memory: &[u16], ask: Ask, sound: &mut [u8], at: usize) -> Made
+// The call, made once; what is heard of a frame is put at `at`.
+fn make(
+    m: &mut [u32],
+    memory: &[u16],
+    ask: Ask,
+    sound: &mut [u8],
+    at: usize,
+) -> Result<u32, Refusal>
     requires { at + SAMPLE_BYTES ≤ length sound.old }
-    ensures { Makes m.old (call_of ask memory.now silence) sound.old at result m.new sound.new }
+    ensures { Makes m.old (call_of ask memory.now silence) sound.old at (answer_of result) m.new sound.new }
 {
-    let mut out = [0i32; machine::OUTPUT_VALUES];
-    let reply = calls::perform(m, ask, memory, &mut out);
-    let answer = reply.answer;
-    let refused = refusal(answer);
+    let mut out = [0; machine::OUTPUT_VALUES];
+    let answer = calls::perform(m, ask, memory, &mut out);
     if is_frame(ask) {
-        let four = sample_bytes(&out);
-        layout::put4(sound, at, four[0], four[1], four[2], four[3]);
-        Made {
-            frames: 1,
-            refused: refused,
-        }
-    } else {
-        Made {
-            frames: 0,
-            refused: refused,
-        }
+        layout::put4(sound, at, sample_bytes(&out));
     }
+    answer
 }
 
-// 1 where a call is refused.
-fn refusal(a: Answer) -> usize
-    ensures { result ≡ cond (is_done a) 0 1 }
-{
-    if answer::number(a) == 0 { 0 } else { 1 }
-}
-
-/// Where a score stands after some calls: its command, and how many of that one's calls are made;
-/// and what those calls came to.
-#[derive(Clone, Copy, Debug, PartialEq, Eq)]
-pub struct Played {
+/// Where a score stands after some calls: its command, and how many of that one's calls are made.
+#[derive(Clone, Copy, Debug, Default, PartialEq, Eq)]
+pub struct Position {
     pub command: usize,
     pub made: u32,
+}
+
+/// Where a score stands after some calls, and what they came to.
+#[derive(Clone, Copy, Debug, PartialEq, Eq)]
+pub struct Played {
+    pub position: Position,
     pub frames: usize,
     pub refused: usize,
 }
 
-/// Plays on from a command of which so many calls are made: as many calls as the sound has room
-/// for, if each were a frame.
+/// Plays on from a position: as many calls as the sound has room for, if each were a frame.
 pub fn play(
     m: &mut [u32],
     memory: &[u16],
     commands: &[u8],
-    command: usize,
-    made: u32,
+    position: Position,
     sound: &mut [u8],
 ) -> Played
-    requires { made ≤ (command_no commands.now command).times }
-    ensures { Plays m.old memory.now commands.now command made sound.old result m.new sound.new }
+    requires { position.made ≤ times_of (command_no commands.now position.command) }
+    ensures { Plays m.old memory.now commands.now position.command position.made sound.old result m.new sound.new }
 {
+    let (whole, _) = commands.as_chunks::<COMMAND_BYTES>();
     let room = sound.len() / SAMPLE_BYTES;
-    let count = commands.len() / COMMAND_BYTES;
-    let mut k = command;
-    let mut own = made;
+    let Position {
+        mut command,
+        mut made,
+    } = position;
     let mut calls = 0;
     let mut frames = 0;
     let mut refused = 0;
-    while (calls < room) & (k < count) {
-        let c = command_at(commands, COMMAND_BYTES * k);
-        let ask = c.ask;
-        if own < c.times {
-            let one = make(m, memory, ask, sound, SAMPLE_BYTES * frames);
-            own += 1;
-            calls += 1;
-            frames += one.frames;
-            refused += one.refused;
-        } else {
-            k += 1;
-            own = 0;
+    // No `for` over the commands: it begins and stops within one of them.
+    while calls < room && command < whole.len() {
+        match Command::from(whole[command]).call(made) {
+            Some(ask) => {
+                let answer = make(m, memory, ask, sound, SAMPLE_BYTES * frames);
+                made += 1;
+                calls += 1;
+                frames += usize::from(is_frame(ask));
+                refused += usize::from(answer.is_err());
+            }
+            None => {
+                command += 1;
+                made = 0;
+            }
         }
     }
     Played {
-        command: k,
-        made: own,
-        frames: frames,
-        refused: refused,
+        position: Position { command, made },
+        frames,
+        refused,
     }
 }

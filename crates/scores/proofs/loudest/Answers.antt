@@ -1,29 +1,19 @@
--- One sample more: the greater of it and the loudest so far.
-use Rattle.std.proofs.Common.{arith, ℕ, suc, List, refl, ap, ◌∙◌, ◌≡◌, ◌+◌, ◌*◌, max}
-use Rattle.std.specs.Prelude.{nat_abs}
-use Rattle.numbers.specs.Numbers.{signed}
-use Rattle.layout.specs.Bytes.{little2_at}
-use Rattle.scores.specs.Sound.{loudest_of}
+use Rattle.std.proofs.Common.{◌≡◌, ◌∙◌, refl, rules, max, subst, sym, ap}
+use Rattle.std.specs.Int.{w16, from_le_bytes, cast_signed}
+use Rattle.std.specs.Prelude.{nat_abs, ℕ, List, [], ◌∷◌}
+use Rattle.std.specs.List.{fold}
+use Rattle.std.proofs.lemmas.Fn.{fold_over, slice_gives, fronts}
+use Rattle.std.proofs.lemmas.List.Sums.{fold-append}
+use Rattle.scores.proofs.Loud.{loudest_is}
 use Rattle.scores.proofs.loudest.Goals as goal
-use Rattle.scores.proofs.loudest.Goals.{then-most-z, else-most-z}
 
-pub loop-i-init : goal.loop-i-init
-unfolding loudest_of
-loop-i-init c = refl
+abbrev louder : ℕ → List ℕ → ℕ
+louder most sample = max most (nat_abs (cast_signed w16 (from_le_bytes w16 sample)))
 
-next : (sound : List ℕ) (before i most z new : ℕ) → most ≡ loudest_of sound i before → z ≡ nat_abs (signed 16 (little2_at sound (2 * i))) → new ≡ max most z
-    → new ≡ loudest_of sound (i + 1) before
-unfolding loudest_of
-next sound before i most z new e f g =
-    let q : i + 1 ≡ suc i = omega arith in
-    rw q (g ∙ rw (e, f) refl)
-
-pub loop-i-preserved : goal.loop-i-preserved
-loop-i-preserved c =
-    let z = c.magnitude-z.result in
-    let g : c.if-most-z.most ≡ max c.loop-i.most z =
-    elim c.if-most-z.branch [
-      | then-most-z w ↦ w.most-is ∙ omega (arith, w.if-most-z.true)
-      | else-most-z w ↦ w.most-is ∙ omega (arith, w.if-most-z.false)
-    ] in
-    next _ _ c.loop-i.i c.loop-i.most z _ c.loop-i.invariant (c.magnitude-z.ensures ∙ ap (λ (w : ℕ). nat_abs (signed 16 w)) c.little2_at.ensures) g
+pub returns : goal.returns
+returns c =
+    let loud : c.fold.result ≡ fold louder c.args.before c.as_chunks.result.0.now =
+    subst (λ l. c.fold.result ≡ fold louder c.args.before l) c.iter.ensures.rest
+    (fold_over fronts (λ y. y.now) _ (λ ys n. n ≡ fold louder c.args.before ys) _ (λ ys a x b f' j k. let more = fold-append louder c.args.before ys (x.now ∷ []) in (let w : b ≡ louder a x.now = search rules in w ∙ ap (λ m. louder m x.now) j ∙ sym more, refl))
+    _ _ _ _ (slice_gives c.iter.result) refl c.fold.ensures.ran) in
+    loud ∙ loudest_is c.args.sound.now _ c.as_chunks.ensures.front c.as_chunks.ensures.front_len c.type_inv.sound c.args.before

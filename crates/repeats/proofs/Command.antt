@@ -1,0 +1,61 @@
+-- A command by its own four bytes, as the code has it, and as it stands in a list of them.
+-- In order: the arrays that a list is cut into (`chunk_is`), and those that are commands (`command_is`); what a command says, and what it stands for,
+-- by its own bytes (`own_kind`, `own_number`, `own_byte`, `own_asked`, `own_repeats`, `own_stands`); its number of two bytes (`number_is`). Assumes
+-- nothing.
+use mathlib.Core.Path.{◌≡◌, refl, sym, ap, ◌∙◌}
+use mathlib.Core.List.{List, []}
+use Prim.Native.Nat.{ℕ, zero, suc, ◌+◌, ◌*◌, ◌<◌}
+use native.Mathlib.Nat.{add-zero, mul-zero, mul-suc}
+use native.Mathlib.Omega.{arith}
+use lib.ListN.{length, get_or, take, drop}
+use lib.Seq.{drop-drop}
+use Rattle.std.specs.Simd.{first_chunks}
+use Rattle.std.proofs.lemmas.List.{drop-take, take-take}
+use Rattle.layout.specs.Parts.{part}
+use Rattle.layout.specs.Bytes.{big, big2_at}
+use Rattle.layout.proofs.Parts.{part_at}
+use Rattle.layout.proofs.Bytes.{part_2}
+use Rattle.layout.proofs.Endian.{big_2}
+use Rattle.repeats.specs.Repeats.{COMMAND_BYTES, command_count, kind_at, number_at, byte_at, back_at, asked_at, repeats_at, stands_for}
+
+-- the arrays of n elements that a list is cut into are its parts
+pub chunk_is : (n k : ℕ) (xs : List ℕ) (i : ℕ) → i < k → get_or (first_chunks n k xs) i [] ≡ part xs (n * i) n
+chunk_is n zero xs i h = absurd (omega arith)
+chunk_is n (suc k) xs zero h = rw mul-zero refl
+chunk_is n (suc k) xs (suc i) h =
+    let e : n + n * i ≡ n * suc i = omega (arith, mul-suc n i) in
+    chunk_is n k (drop n xs) i (omega arith) ∙ ap (take n) (drop-drop (n * i) n xs ∙ ap (λ (m : ℕ). drop m xs) e)
+
+-- and so are those that the code has
+pub command_is : (xs : List ℕ) (chunks : List (List ℕ)) (k : ℕ) → chunks ≡ first_chunks COMMAND_BYTES (command_count xs) xs → k < command_count xs
+    → get_or chunks k [] ≡ part xs (COMMAND_BYTES * k) COMMAND_BYTES
+command_is xs chunks k e h = rw e (chunk_is COMMAND_BYTES (command_count xs) xs k h)
+
+module _ (xs : List ℕ) (i : ℕ) where
+  pub own_kind : kind_at (part xs i COMMAND_BYTES) 0 ≡ kind_at xs i
+  own_kind = part_at xs i COMMAND_BYTES 0 0 (omega arith) ∙ rw add-zero refl
+
+  pub own_number : number_at (part xs i COMMAND_BYTES) 0 ≡ number_at xs i
+  own_number =
+      ap big (ap (take 2) (drop-take 1 3 (drop i xs)) ∙ take-take 2 3 (drop 1 (drop i xs)) (omega arith) ∙ ap (take 2) (drop-drop 1 i xs))
+
+  pub own_byte : byte_at (part xs i COMMAND_BYTES) 0 ≡ byte_at xs i
+  own_byte = part_at xs i COMMAND_BYTES 3 0 (omega arith)
+
+  own_back : back_at (part xs i COMMAND_BYTES) 0 ≡ back_at xs i
+  own_back = ap (λ (n : ℕ). COMMAND_BYTES * n) own_number
+
+  pub own_asked : asked_at (part xs i COMMAND_BYTES) 0 ≡ asked_at xs i
+  own_asked = ap (λ (n : ℕ). COMMAND_BYTES * n) own_byte
+
+  pub own_repeats : (before : ℕ) → repeats_at (part xs i COMMAND_BYTES) 0 before ≡ repeats_at xs i before
+  unfolding repeats_at
+  own_repeats before = rw (own_kind, own_back, own_asked) refl
+
+  pub own_stands : (before : List ℕ) → stands_for before (part xs i COMMAND_BYTES) 0 ≡ stands_for before xs i
+  unfolding stands_for
+  own_stands before = rw (own_repeats (length before), own_back, own_asked, take-take COMMAND_BYTES COMMAND_BYTES (drop i xs) (omega arith)) refl
+
+-- the number, of its two bytes
+pub number_is : (command : List ℕ) → length command ≡ COMMAND_BYTES → get_or command 1 0 * 256 + get_or command 2 0 ≡ big2_at command 1
+number_is command h = big_2 (get_or command 1 0) (get_or command 2 0) ∙ ap big (sym (part_2 command 1 (omega arith)))
