@@ -19,7 +19,8 @@ pub const WHOLE_SAMPLE: u32 = 2048;
 /// fetches.
 #[derive(Clone, Copy, Debug)]
 pub struct Samples<'a> {
-    memory: &'a [u16],
+    /// The words that are lent, from the first of bank 0.
+    pub memory: &'a [u16],
     lasts: [usize; 4],
     ghost last_words: { Lasts (length memory.now) lasts },
 }
