@@ -1,7 +1,7 @@
 //! The address step of a running voice: ACCUM moves by FC, and a loop point that it passes makes a
 //! loop event. Targets are `i64`, so that a step past either end of the 32 bits is seen before it
-//! wraps. Forward and in reverse are a function each, as the rule is: one for both would ask for the
-//! direction at the target, at the loop point and at the event.
+//! wraps. Forward and in reverse are a function each, as the rule is: one for both would ask for
+//! the direction at the target, at the loop point and at the event.
 #![tactic(auto)]
 
 ghost use Rattle.std.specs.Prelude.{◌≡◌, ◌<◌, ◌≤◌, cond};

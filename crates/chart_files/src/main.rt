@@ -1,6 +1,6 @@
 //! Prints the chart of each file that the arguments name, one after the other. A file that can't be
-//! opened or read, or a chart that can't be written, ends it: the error has the file's name, and the
-//! status is 1.
+//! opened or read, or a chart that can't be written, ends it: the error has the file's name, and
+//! the status is 1.
 //!
 //! Here it is run on both ends of each row of the manual's table, in the table's order; one byte
 //! alone; two pairs and one byte more; no input; the most bytes that a chart takes, every even
