@@ -1,5 +1,5 @@
-//! The code chart programs, but for their `main`: reads an input and writes its chart. One byte more
-//! than a chart takes is read, so that a longer input is seen.
+//! The code chart programs, but for their `main`: reads an input and writes its chart. One byte
+//! more than a chart takes is read, so that a longer input is seen.
 #![tactic(auto)]
 
 ghost use Rattle.std.specs.Prelude.{◌≡◌, ◌≤◌, length, IfSome, OnOk, OnErr};
@@ -10,9 +10,9 @@ ghost use Rattle.chart.specs.Chart.{chart_of};
 use std::io;
 use std::io::{Input, Print, Read, Write};
 
-// A byte more than a chart takes, and the nine for each byte that any chart has room in. Both lie on
-// the stack: `write_chart` is lent a reader and a writer and no allocator, and its `err` allows no
-// error but theirs.
+// A byte more than a chart takes, and nine bytes for each, in which any chart has room. Both lie on
+// the stack: `write_chart` is lent a reader and a writer and no allocator, and succeeds where both
+// do.
 const MOST_READ: usize = 65537;
 
 const MOST_WRITTEN: usize = 589833;
