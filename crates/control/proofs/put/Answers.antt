@@ -1,3 +1,4 @@
+-- `control::put`: each shifted bit fits, and a bit that is set can be taken off.
 use Rattle.std.proofs.Common.{◌≡◌, ℕ, ◌*◌, ◌%◌, not, bit_or}
 use mathlib.Core.Path.{ap₂, ◌∙◌}
 use Prim.Native.Nat.{◌-◌, ◌^◌}
