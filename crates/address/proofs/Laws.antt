@@ -1,19 +1,26 @@
--- The address step by its tests: the four events, and that the event of each direction is one of them; the ways of a step forward and in
+-- The address step by its tests: the four events, by the loop mode too, and that the event of each direction is one of them; the ways of a step forward and in
 -- reverse; then the step that stays within the loop points, in natural numbers. Assumes nothing.
-use mathlib.Core.Path.{◌≡◌, refl, ap, ◌∙◌}
-use mathlib.Core.Bool.{true, false}
+use mathlib.Core.Path.{◌≡◌, refl, sym, ap, ◌∙◌}
+use mathlib.Core.Bool.{Bool, true, false, not}
 use Prim.Native.Nat.{ℕ, ◌+◌, ◌-◌, ◌<◌, ◌≤◌}
 use native.Mathlib.Nat.{mod-eq_of_lt, add-zero}
 use native.Mathlib.Omega.{arith}
-use borrow.Author.Tests.{le-leb, le-ltb}
+use borrow.Author.Tests.{lt-leb, le-leb, lt-ltb, le-ltb}
 use lib.Dec.{ltb}
-use lib.IntN.{ℤ, pos, ◌+ℤ◌, ◌-ℤ◌}
-use lib.Signed.{le_z, lt_z}
+use lib.IntN.{ℤ, pos, negsuc, ◌+ℤ◌, ◌-ℤ◌}
+use lib.Signed.{le_z, lt_z, mag}
+use mir.Syntax.{w64}
+use mir.Val.{to_z, of_z}
 use Rattle.numbers.specs.Numbers.{floor_mod, word}
-use Rattle.numbers.proofs.Tests.{split}
+use Rattle.numbers.proofs.Tests.{split, cases}
 use Rattle.numbers.proofs.Difference.{is_pos, pos-⊖, ⊖-lt}
 use Rattle.numbers.proofs.Words.{pos-sub}
+use Rattle.numbers.proofs.Within.{of_pos}
+use Rattle.numbers.proofs.Local.{Num, ret}
 use Rattle.control.specs.Control.{flag_of, with_bit, STP0, LEI, LPE, BLE, IRQE, DIR, IRQ}
+use Rattle.control.specs.LoopMode.{loop_mode_of}
+use Rattle.control.specs.declared.LoopMode.{LoopMode}
+use Rattle.control.specs.declared.LoopMode.TheVariants.{Stop, Loop, Once, Turn}
 use Rattle.address.specs.declared.Place.{Place}
 use Rattle.address.specs.Address.{raised, forward_event, reverse_event, forward, reverse, stepped}
 use Rattle.address.specs.Event.{event}
@@ -32,17 +39,25 @@ module _ (CR passed : ℕ) (across back : ℤ) (direction : ℕ) where
   unfolding event
   turns b l = rw (b, l)
 
-  pub goes_on_once : flag_of BLE CR ≡ true → flag_of LPE CR ≡ false → event CR passed across back direction ≡ record { accum = word 32 across; cr = with_bit LEI 1 (with_bit BLE 0 (raised CR)) }
-  unfolding event
-  goes_on_once b l = rw (b, l)
-
   pub goes_on : flag_of BLE CR ≡ false → flag_of LPE CR ≡ true → event CR passed across back direction ≡ record { accum = word 32 across; cr = raised CR }
   unfolding event
   goes_on b l = rw (b, l)
 
-  pub stops : flag_of BLE CR ≡ false → flag_of LPE CR ≡ false → event CR passed across back direction ≡ record { accum = passed; cr = with_bit STP0 1 (raised CR) }
-  unfolding event
-  stops b l = rw (b, l)
+  -- the same by the loop mode
+  unfoldable pub left_by : LoopMode → Place
+  left_by Stop = record { accum = passed; cr = with_bit STP0 1 (raised CR) }
+  left_by Loop = record { accum = word 32 across; cr = raised CR }
+  left_by Once = record { accum = word 32 across; cr = with_bit LEI 1 (with_bit BLE 0 (raised CR)) }
+  left_by Turn = record { accum = word 32 back; cr = with_bit DIR direction (raised CR) }
+
+  event_left : event CR passed across back direction ≡ left_by (loop_mode_of CR)
+  unfolding event left_by
+  event_left = split _ (flag_of BLE CR)
+      (λ b. split _ (flag_of LPE CR) (λ l. rw (b, l)) (λ l. rw (b, l)))
+      (λ b. split _ (flag_of LPE CR) (λ l. rw (b, l)) (λ l. rw (b, l)))
+
+  pub left_in : {m r : LoopMode} → r ≡ m → r ≡ loop_mode_of CR → left_by m ≡ event CR passed across back direction
+  left_in is told = ap left_by (sym is ∙ told) ∙ sym event_left
 
 -- the event of each direction, as one
 module _ (CR START END : ℕ) (d : ℤ) where
@@ -100,6 +115,17 @@ module _ (CR FC START END ACCUM : ℕ) where
 -- two places are one where both parts are
 pub same_place : {a b c d : ℕ} → a ≡ b → c ≡ d → ◌≡◌ {A = Place} (record { accum = a; cr = c }) (record { accum = b; cr = d })
 same_place p q = λ i. record { accum = p i; cr = q i }
+
+-- not below an address, the other way round
+pub lt_le : {b : Bool} (z : ℤ) (a : ℕ) → le_z (pos a) z ≡ b → lt_z z (pos a) ≡ not b
+lt_le (pos z) a e = cases z a (ltb z a ≡ not _)
+    (λ h. lt-ltb z a h ∙ ap not (sym (lt-leb a z h) ∙ e))
+    (λ h. le-ltb z a h ∙ ap not (sym (le-leb a z h) ∙ e))
+lt_le (negsuc z) a e = ap not e
+
+-- `i64::from` of an address of 32 bits
+pub wide : {r : ℤ} {a : ℕ} → mag r < 9223372036854775808 → r ≡ pos a → a < 4294967296 → Num w64 4294967295 (pos a) (to_z w64 (of_z w64 r))
+wide {a = a} f e h = ret w64 f e (of_pos a (omega arith))
 
 -- ---- within the loop points
 

@@ -1,13 +1,16 @@
 //! The address step of a running voice: ACCUM moves by FC, and a loop point that it passes makes a
 //! loop event. Targets are `i64`, so that a step past either end of the 32 bits is seen before it
-//! wraps.
+//! wraps. Forward and in reverse are a function each, as the rule is: one for both would ask for the
+//! direction at the target, at the loop point and at the event.
 #![tactic(auto)]
 
-ghost use Rattle.std.specs.Prelude.{◌≡◌, ◌<◌, ◌≤◌};
+ghost use Rattle.std.specs.Prelude.{◌≡◌, ◌<◌, ◌≤◌, cond};
 ghost use Rattle.numbers.specs.Numbers.{Within, word};
 ghost use Rattle.address.specs.Address.{raised, stepped};
 ghost use Rattle.address.specs.Address.{forward as Address-as-forward, reverse as Address-as-reverse};
 ghost use Rattle.address.specs.Event.{event as Event-as-event};
+
+use control::LoopMode;
 
 /// What the step changes.
 #[derive(Clone, Copy, Debug, PartialEq, Eq)]
@@ -17,6 +20,7 @@ pub struct Place {
 }
 
 /// ACCUM and the control register after the step.
+#[tactic(auto, unfolding(crate::specs::Address::stepped))]
 pub fn step(cr: u32, fc: u32, start: u32, end: u32, accum: u32) -> Place
     requires { cr < 65536 }
     ensures { (result ≡ stepped cr fc start end accum) × (result.cr < 65536) }
@@ -32,86 +36,76 @@ fn forward(cr: u32, fc: u32, start: u32, end: u32, accum: u32) -> Place
     requires { cr < 65536 }
     ensures { (result ≡ Address-as-forward cr fc start end accum) × (result.cr < 65536) }
 {
-    let t = accum as i64 + fc as i64;
-    if control::flag(control::LEI, cr) {
+    let target = i64::from(accum) + i64::from(fc);
+    if control::flag(control::LEI, cr) || target <= i64::from(end) {
         return Place {
-            accum: wrap(t),
-            cr: cr,
+            accum: wrap(target),
+            cr,
         };
     }
-    if t <= end as i64 {
-        return Place {
-            accum: wrap(t),
-            cr: cr,
-        };
-    }
-    let d = t - end as i64;
-    event(cr, end, start as i64 + d, end as i64 - d, 1)
+    let past = target - i64::from(end);
+    let across = i64::from(start) + past;
+    let back = i64::from(end) - past;
+    event(cr, end, across, back, true)
 }
 
 fn reverse(cr: u32, fc: u32, start: u32, end: u32, accum: u32) -> Place
     requires { cr < 65536 }
     ensures { (result ≡ Address-as-reverse cr fc start end accum) × (result.cr < 65536) }
 {
-    let t = accum as i64 - fc as i64;
-    if control::flag(control::LEI, cr) {
+    let target = i64::from(accum) - i64::from(fc);
+    if control::flag(control::LEI, cr) || target >= i64::from(start) {
         return Place {
-            accum: wrap(t),
-            cr: cr,
+            accum: wrap(target),
+            cr,
         };
     }
-    if t < start as i64 {
-        let d = start as i64 - t;
-        return event(cr, start, end as i64 - d, start as i64 + d, 0);
-    }
-    Place {
-        accum: wrap(t),
-        cr: cr,
-    }
+    let past = i64::from(start) - target;
+    let across = i64::from(end) - past;
+    let back = i64::from(start) + past;
+    event(cr, start, across, back, false)
 }
 
-// A loop event, by the loop mode BLE, LPE. Both directions share it: they differ in where the three
-// ways lead, and in the direction after.
-fn event(cr: u32, passed: u32, across: i64, back: i64, direction: u32) -> Place
+// A loop event, by the loop mode. Both directions share it: they differ in where the three ways
+// lead, and in the direction after.
+fn event(cr: u32, passed: u32, across: i64, back: i64, reverse: bool) -> Place
     requires cr_bound { cr < 65536 }
     requires within { Within 17179869184 across }
     requires within_2 { Within 17179869184 back }
-    requires direction_bound { direction ≤ 1 }
-    ensures { (result ≡ Event-as-event cr passed across back direction) × (result.cr < 65536) }
+    ensures { (result ≡ Event-as-event cr passed across back (cond reverse 1 0)) × (result.cr < 65536) }
 {
     let up = raise(cr);
-    if control::flag(control::BLE, cr) {
-        if control::flag(control::LPE, cr) {
-            return Place {
-                accum: wrap(back),
-                cr: control::with_bit(control::DIR, direction, up),
-            };
-        }
-        let once = control::with_bit(control::BLE, 0, up);
-        return Place {
-            accum: wrap(across),
-            cr: control::with_bit(control::LEI, 1, once),
-        };
-    }
-    if control::flag(control::LPE, cr) {
-        return Place {
+    match control::loop_mode(cr) {
+        LoopMode::Stop => Place {
+            accum: passed,
+            cr: control::with_bit(control::STP0, true, up),
+        },
+        LoopMode::Loop => Place {
             accum: wrap(across),
             cr: up,
-        };
-    }
-    Place {
-        accum: passed,
-        cr: control::with_bit(control::STP0, 1, up),
+        },
+        LoopMode::Once => {
+            let once = control::with_bit(control::BLE, false, up);
+            Place {
+                accum: wrap(across),
+                cr: control::with_bit(control::LEI, true, once),
+            }
+        }
+        LoopMode::Turn => Place {
+            accum: wrap(back),
+            cr: control::with_bit(control::DIR, reverse, up),
+        },
     }
 }
 
 // The flag is set where the voice may interrupt.
+#[tactic(auto, unfolding(crate::specs::Address::raised))]
 fn raise(cr: u32) -> u32
     requires { cr < 65536 }
     ensures { (result ≡ raised cr) × (result < 65536) }
 {
     if control::flag(control::IRQE, cr) {
-        control::with_bit(control::IRQ, 1, cr)
+        control::with_bit(control::IRQ, true, cr)
     } else {
         cr
     }

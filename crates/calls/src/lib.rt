@@ -2,10 +2,12 @@
 #![tactic(auto)]
 
 ghost use Rattle.std.specs.Prelude.{◌≡◌};
+ghost use Rattle.answer.specs.Answer.{answer_of, value_or};
 ghost use Rattle.calls.specs.Asks.{Performs};
 
-use answer::Answer;
+use answer::Refusal;
 
+/// A call, with what it is asked beside the record that it is lent.
 #[derive(Clone, Copy, Debug, PartialEq, Eq)]
 pub enum Ask {
     Reset,
@@ -16,55 +18,18 @@ pub enum Ask {
     Frame,
 }
 
-/// What a call answers, and the number that it gives beside: a read its byte, `Waiting` the mask of
-/// the waiting voices, a frame how many words were missing; 0 of any other.
-#[derive(Clone, Copy, Debug, PartialEq, Eq)]
-pub struct Reply {
-    pub answer: Answer,
-    pub given: u32,
-}
-
-/// The call that is asked. Only a frame looks at the sample memory and the output.
-pub fn perform(m: &mut [u32], ask: Ask, memory: &[u16], out: &mut [i32]) -> Reply
-    ensures { Performs m.old memory.now out.old ask result.answer result.given m.new out.new }
+/// The call that is asked, and the number that it gives: a read its byte, `Waiting` the mask of the
+/// waiting voices, a frame how many words were missing; any other 0. Only a frame looks at the
+/// sample memory and the output.
+pub fn perform(m: &mut [u32], ask: Ask, memory: &[u16], out: &mut [i32]) -> Result<u32, Refusal>
+    ensures { Performs m.old memory.now out.old ask (answer_of result) (value_or 0 result) m.new out.new }
 {
     match ask {
-        Ask::Reset => no_number(machine::reset(m)),
-        Ask::Write(a, b) => no_number(registers::write(m, a, b)),
-        Ask::Read(a) => {
-            let got = registers::read(m, a);
-            let answer = got.answer;
-            Reply {
-                answer: answer,
-                given: got.byte as u32,
-            }
-        }
-        Ask::SetPot(p) => no_number(registers::set_pot(m, p)),
-        Ask::Waiting => {
-            let told = machine::waiting(m);
-            let answer = told.answer;
-            Reply {
-                answer: answer,
-                given: told.mask,
-            }
-        }
-        Ask::Frame => {
-            let framed = frame::frame(m, memory, out);
-            let answer = framed.answer;
-            Reply {
-                answer: answer,
-                given: framed.missing,
-            }
-        }
-    }
-}
-
-// What a call replies that gives no number.
-fn no_number(answer: Answer) -> Reply
-    ensures { (result.answer ≡ answer) × (result.given ≡ 0) }
-{
-    Reply {
-        answer: answer,
-        given: 0,
+        Ask::Reset => machine::reset(m).map(|()| 0),
+        Ask::Write(a, b) => registers::write(m, a, b).map(|()| 0),
+        Ask::Read(a) => registers::read(m, a).map(u32::from),
+        Ask::SetPot(p) => registers::set_pot(m, p).map(|()| 0),
+        Ask::Waiting => machine::waiting(m),
+        Ask::Frame => frame::frame(m, memory, out),
     }
 }

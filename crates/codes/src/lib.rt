@@ -10,8 +10,9 @@ ghost use Rattle.numbers.specs.Numbers.{floor_div, word};
 ghost use Rattle.codes.specs.Codes.{value_of, Expands, Compressed};
 ghost use Rattle.codes.specs.Exponent.{Exponent, spacing};
 
-// The value of each code, from code 0 up.
-const VALUES: [i16; 256] = [
+// The value of each code, from code 0 up. It lies in the program's data and is read where it lies:
+// a `const` would be built anew at each look.
+static VALUES: [i16; 256] = [
     0, 16, 32, 48, 64, 80, 96, 112, 128, 144, 160, 176, 192, 208, 224, 240, -256, -240, -224, -208,
     -192, -176, -160, -144, -128, -112, -96, -80, -64, -48, -32, -16, -512, -496, -480, -464, -448,
     -432, -416, -400, -384, -368, -352, -336, -320, -304, -288, -272, 256, 272, 288, 304, 320, 336,
@@ -32,29 +33,18 @@ const VALUES: [i16; 256] = [
     29696, 30720, 31744,
 ];
 
-/// The table, for a caller that expands many codes: it is made once, where this is called, and lent
-/// to `look_up`.
-pub fn values() -> [i16; 256]
-    ensures { Expands result }
+/// The table of all values, from code 0 up.
+pub fn table() -> &'static [i16; 256]
+    ensures { Expands result.now }
 {
-    VALUES
-}
-
-/// The value of a code, read from the lent table.
-pub fn look_up(table: &[i16; 256], code: u8) -> i16
-    requires { Expands table.now }
-    ensures { result ≡ value_of code }
-{
-    let at = code as usize;
-    table[at]
+    &VALUES
 }
 
 /// The value of a code.
 pub fn expand(code: u8) -> i16
     ensures { result ≡ value_of code }
 {
-    let table = values();
-    look_up(&table, code)
+    table()[usize::from(code)]
 }
 
 /// The code with the greatest value that is not above the sample.
@@ -71,7 +61,7 @@ pub fn compress(sample: i16) -> u8
 fn magnitude(sample: i16) -> u32
     ensures { (result ≡ mag sample) × (result < 32768) }
 {
-    let s = sample as i32;
+    let s = i32::from(sample);
     (s ^ (s >> 31)) as u32
 }
 
@@ -82,7 +72,7 @@ fn exponent(t: u32) -> u32
     requires { t < 32768 }
     ensures { Exponent t result }
 {
-    24 - u32::leading_zeros(t | 255)
+    24 - (t | 255).leading_zeros()
 }
 
 // The mantissa of a sample of exponent e: the leading bits that equal its sign are shifted out, at
@@ -91,7 +81,7 @@ fn mantissa(sample: i16, e: u32) -> u32
     requires { e < 8 }
     ensures { (result ≡ word 5 (floor_div sample (spacing e))) × (result < 32) }
 {
-    numbers::word_of(5, (sample as i32) << shift(e) >> 27)
+    numbers::word_of(5, i32::from(sample) << shift(e) >> 27)
 }
 
 // How many bits are shifted out: 24 - e, and at exponent 0 as many as at 1.

@@ -2,17 +2,21 @@
 //! record but a reset begins with, the waiting voices, and reset.
 #![tactic(auto)]
 
-ghost use Rattle.std.specs.Prelude.{◌≡◌, ◌&&◌, ◌+◌, ◌<◌, ◌≤◌, length, get_or};
+ghost use Rattle.std.specs.Prelude.{◌≡◌, ◌&&◌, ◌+◌, ◌<◌, ◌≤◌, cond, length, get_or};
+ghost use Rattle.answer.specs.Answer.{answer_of, value_or};
 ghost use Rattle.control.specs.Control.{with_bit};
 ghost use Rattle.machine.specs.Words.{bits_of, voice_bits, shared_bits, RECORD_WORDS as Words-as-RECORD_WORDS, VOICES as Words-as-VOICES, O3N2 as Words-as-O3N2};
-ghost use Rattle.machine.specs.Words.{WAIT_MASK as Words-as-WAIT_MASK, waiting_voices, with_mask};
+ghost use Rattle.machine.specs.Words.{WAIT_MASK as Words-as-WAIT_MASK, is_vector, waiting_voices, with_mask};
 ghost use Rattle.machine.specs.Kept.{in_voices, gathered_kept, sums_kept, shared_kept, Lanes};
 ghost use Rattle.machine.specs.Check.{checked};
 ghost use Rattle.machine.specs.Reset.{Resets, fresh};
 ghost use Rattle.machine.specs.Reset.{reset_word as Reset-as-reset_word};
 ghost use Rattle.machine.specs.Waiting.{TellsWaiting};
 
-use answer::Answer;
+mod view;
+
+use answer::Refusal;
+pub use view::Machine;
 
 /// How many words a record has; how many voices it has, and how many words each.
 pub const RECORD_WORDS: usize = 664;
@@ -163,6 +167,7 @@ const SHARED_BITS: [u32; SHARED_WORDS] = [
 ];
 
 /// The bits that word i keeps.
+#[tactic(auto, unfolding(crate::specs::Words::bits_of, crate::specs::Words::shared_bits))]
 pub fn bits_of(i: usize) -> u32
     requires { i < Words-as-RECORD_WORDS }
     ensures { result ≡ bits_of i }
@@ -179,36 +184,37 @@ pub fn bits_of(i: usize) -> u32
 /// Whether a record may be used: its length, then its words and its mask, then the vector. The
 /// stray bits of all words go into four lanes, so that the compiler takes four words at a time;
 /// they are judged when all are in, and with them the bits in which the mask is false.
-pub fn check(m: &[u32]) -> Answer
+pub fn check(m: &[u32]) -> Result<(), Refusal>
     ensures { result ≡ checked m.now }
 {
-    if m.len() != RECORD_WORDS {
-        return Answer::RecordLength;
-    }
+    let m: &[u32; RECORD_WORDS] = m.as_array().ok_or(Refusal::RecordLength)?;
+    // Lent from a copy, the tables go into the code: a check is 486 instructions, and 543 where it
+    // reads them as they lie.
     let kept = VOICE_BITS;
-    let mut stray: [u32; 4] = [0; 4];
+    let shared = SHARED_BITS;
+    let mut stray = [0; 4];
     for g in 0..4 {
         look_at_four(m, 4 * g, &kept, &mut stray);
     }
-    let shared = SHARED_BITS;
     look_at_rest(m, &shared, &mut stray);
     let false_bits = m[WAIT_MASK] ^ gather_flags(m);
-    if stray[0] | stray[1] | stray[2] | stray[3] | false_bits != 0 {
-        return Answer::RecordInvalid;
+    let stray = stray[0] | stray[1] | stray[2] | stray[3] | false_bits;
+    if stray != 0 || !is_vector(m[IRQV]) {
+        return Err(Refusal::RecordInvalid);
     }
-    let vector = m[IRQV];
-    if vector < VOICES as u32 {
-        return Answer::Done;
-    }
-    if vector == NO_INTERRUPT {
-        return Answer::Done;
-    }
-    Answer::RecordInvalid
+    Ok(())
+}
+
+// Whether the interrupt vector names a voice, or none.
+#[tactic(auto, unfolding(crate::specs::Words::is_vector))]
+fn is_vector(x: u32) -> bool
+    ensures { result ≡ is_vector x }
+{
+    x < VOICES as u32 || x == NO_INTERRUPT
 }
 
 // The stray bits of the voices' words j to j + 3 go into the lanes, a word to a lane.
-fn look_at_four(m: &[u32], j: usize, kept: &[u32; VOICE_WORDS], stray: &mut [u32; 4])
-    requires m_len { length m.now ≡ Words-as-RECORD_WORDS }
+fn look_at_four(m: &[u32; RECORD_WORDS], j: usize, kept: &[u32; VOICE_WORDS], stray: &mut [u32; 4])
     requires j_bound { j + 4 ≤ 20 }
     requires kept_value { kept.now ≡ voice_bits }
     requires lanes { Lanes stray.old (gathered_kept m.now j) }
@@ -216,15 +222,14 @@ fn look_at_four(m: &[u32], j: usize, kept: &[u32; VOICE_WORDS], stray: &mut [u32
 {
     for l in 0..4 {
         let all = gather(m, j + l);
-        stray[l] = stray[l] | (all ^ (all & kept[j + l]));
+        stray[l] |= all ^ (all & kept[j + l]);
     }
 }
 
 // The stray bits of the voices' last four words, of the sums and of the words between go into the
 // lanes. The last four words keep the same bits, and so do the sums; only the words between have
 // bits of their own. They are eleven, so the last lane takes the first sum twice.
-fn look_at_rest(m: &[u32], kept: &[u32; SHARED_WORDS], stray: &mut [u32; 4])
-    requires m_len { length m.now ≡ Words-as-RECORD_WORDS }
+fn look_at_rest(m: &[u32; RECORD_WORDS], kept: &[u32; SHARED_WORDS], stray: &mut [u32; 4])
     requires kept_value { kept.now ≡ shared_bits }
     requires lanes { Lanes stray.old (gathered_kept m.now 16) }
     ensures { Lanes stray.new (gathered_kept m.now 20 && sums_kept m.now 4 && shared_kept m.now 4) }
@@ -235,8 +240,7 @@ fn look_at_rest(m: &[u32], kept: &[u32; SHARED_WORDS], stray: &mut [u32; 4])
         let low = m[PAGE + l];
         let middle = m[PAGE + 4 + l];
         let high = m[PAGE + 8 + l];
-        stray[l] = stray[l]
-            | (all ^ (all & FILTER_BITS))
+        stray[l] |= (all ^ (all & FILTER_BITS))
             | (sums ^ (sums & SUM_BITS))
             | (low ^ (low & kept[l]))
             | (middle ^ (middle & kept[4 + l]))
@@ -246,28 +250,26 @@ fn look_at_rest(m: &[u32], kept: &[u32; SHARED_WORDS], stray: &mut [u32; 4])
 
 // All bits that word j has in any voice. The word keeps the same bits in every voice, so what is
 // gathered is held against them once.
-fn gather(m: &[u32], j: usize) -> u32
-    requires m_len { length m.now ≡ Words-as-RECORD_WORDS }
-    requires j_bound { j < 20 }
+fn gather(m: &[u32; RECORD_WORDS], j: usize) -> u32
+    requires { j < 20 }
     ensures { result ≡ in_voices m.now j }
 {
-    let mut all: u32 = 0;
+    let mut all = 0;
     for v in 0..VOICES {
-        all = all | m[VOICE_WORDS * v + j];
+        all |= m[VOICE_WORDS * v + j];
     }
     all
 }
 
 // The same of word O3N2 + l. A function with two callers is not put in line, so the last four words
 // have one of their own.
-fn gather_last(m: &[u32], l: usize) -> u32
-    requires m_len { length m.now ≡ Words-as-RECORD_WORDS }
-    requires l_bound { l < 4 }
+fn gather_last(m: &[u32; RECORD_WORDS], l: usize) -> u32
+    requires { l < 4 }
     ensures { result ≡ in_voices m.now (Words-as-O3N2 + l) }
 {
-    let mut all: u32 = 0;
+    let mut all = 0;
     for v in 0..VOICES {
-        all = all | m[VOICE_WORDS * v + O3N2 + l];
+        all |= m[VOICE_WORDS * v + O3N2 + l];
     }
     all
 }
@@ -275,80 +277,58 @@ fn gather_last(m: &[u32], l: usize) -> u32
 // The mask that the control registers make. From the last voice down each flag joins those above
 // it, which move up; all stand where CR has its flag until they are in, since a flag that stays
 // where it is takes one instruction less.
-fn gather_flags(m: &[u32]) -> u32
-    requires { length m.now ≡ Words-as-RECORD_WORDS }
+fn gather_flags(m: &[u32; RECORD_WORDS]) -> u32
     ensures { result ≡ waiting_voices m.now }
 {
     let mut flags: u64 = 0;
     for i in 0..VOICES {
         let cr = m[VOICE_WORDS * (VOICES - 1 - i) + CR];
-        flags = 2 * flags + (control::bit(control::IRQ, cr) << control::IRQ) as u64;
+        flags = 2 * flags + u64::from(control::bit(control::IRQ, cr) << control::IRQ);
     }
     (flags >> control::IRQ) as u32
 }
 
 /// The mask is true of every other voice than v, whose flag is b now: it is made true.
-pub fn mark(m: &mut [u32], v: usize, b: u32)
+#[tactic(auto, unfolding(crate::specs::Words::with_mask))]
+pub fn mark(m: &mut [u32], v: usize, b: bool)
     requires m_len { length m.old ≡ Words-as-RECORD_WORDS }
-    requires v_bound { (v < Words-as-VOICES) × (b ≤ 1) }
-    requires m_value { waiting_voices m.old ≡ with_bit v b (get_or m.old Words-as-WAIT_MASK 0) }
+    requires v_bound { v < Words-as-VOICES }
+    requires m_value { waiting_voices m.old ≡ with_bit v (cond b 1 0) (get_or m.old Words-as-WAIT_MASK 0) }
     ensures { m.new ≡ with_mask m.old }
 {
     let mask = m[WAIT_MASK];
     m[WAIT_MASK] = control::put(v as u32, b, mask);
 }
 
-/// What a host that asks is told: the answer, and the mask.
-#[derive(Clone, Copy, Debug, PartialEq, Eq)]
-pub struct Told {
-    pub answer: Answer,
-    pub mask: u32,
-}
-
 /// Which voices wait, for the host to see in one look.
-pub fn waiting(m: &[u32]) -> Told
-    ensures { TellsWaiting m.now result.answer result.mask }
+pub fn waiting(m: &[u32]) -> Result<u32, Refusal>
+    ensures { TellsWaiting m.now (answer_of result) (value_or 0 result) }
 {
-    let a = check(m);
-    let Answer::Done = a else {
-        return Told { answer: a, mask: 0 };
-    };
-    Told {
-        answer: Answer::Done,
-        mask: m[WAIT_MASK],
-    }
+    check(m)?;
+    Ok(m[WAIT_MASK])
 }
 
 /// The record as it is after power-on. The old contents do not matter; only a record of another
 /// length is refused.
-pub fn reset(m: &mut [u32]) -> Answer
+pub fn reset(m: &mut [u32]) -> Result<(), Refusal>
     ensures { Resets m.old result m.new }
 {
     if m.len() != RECORD_WORDS {
-        return Answer::RecordLength;
+        return Err(Refusal::RecordLength);
     }
-    fill(m);
-    Answer::Done
-}
-
-fn fill(m: &mut [u32])
-    requires { length m.old ≡ Words-as-RECORD_WORDS }
-    ensures { m.new ≡ fresh }
-{
-    for i in 0..RECORD_WORDS {
-        m[i] = reset_word(i);
+    for (i, word) in m.iter_mut().enumerate() {
+        *word = reset_word(i);
     }
+    Ok(())
 }
 
 // Word i after a reset.
+#[tactic(auto, unfolding(crate::specs::Reset::reset_word))]
 fn reset_word(i: usize) -> u32
     ensures { result ≡ Reset-as-reset_word i }
 {
     if i < PAGE {
-        if i % VOICE_WORDS == CR {
-            return 3;
-        }
-        return 0;
+        return if i % VOICE_WORDS == CR { 3 } else { 0 };
     }
     match i {
         IRQV => NO_INTERRUPT,

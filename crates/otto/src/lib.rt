@@ -26,9 +26,8 @@ pub extern "C" fn otto_read(record: &mut [u32], address: u32, byte: &mut u8) -> 
     ensures { Reading «record».old address result byte.new «record».new }
 {
     let got = registers::read(record, address);
-    *byte = got.byte;
-    let a = got.answer;
-    answer::number(a)
+    *byte = got.unwrap_or(0);
+    answer::number(got)
 }
 
 #[unsafe(no_mangle)]
@@ -43,9 +42,8 @@ pub extern "C" fn otto_waiting(record: &[u32], mask: &mut u32) -> u32
     ensures { TellingWaiting «record».now result mask.new }
 {
     let told = machine::waiting(record);
-    *mask = told.mask;
-    let a = told.answer;
-    answer::number(a)
+    *mask = told.unwrap_or(0);
+    answer::number(told)
 }
 
 #[unsafe(no_mangle)]
@@ -58,9 +56,8 @@ pub extern "C" fn otto_frame(
     ensures { Framing «record».old memory.now output.old result missing.new «record».new output.new }
 {
     let framed = frame::frame(record, memory, output);
-    *missing = framed.missing;
-    let a = framed.answer;
-    answer::number(a)
+    *missing = framed.unwrap_or(0);
+    answer::number(framed)
 }
 
 #[unsafe(no_mangle)]
@@ -91,10 +88,10 @@ pub extern "C" fn otto_import(
     ensures { Importing file.now memory.old word result start.new end.new bits.new samples.new memory.new }
 {
     let got = wave_in::import(file, memory, word);
-    *start = got.start;
-    *end = got.end;
-    *bits = got.bits;
-    *samples = got.samples;
-    let a = got.answer;
-    answer::number(a)
+    let import = got.unwrap_or_default();
+    *start = import.start;
+    *end = import.end;
+    *bits = import.bits;
+    *samples = import.samples;
+    answer::number(got)
 }

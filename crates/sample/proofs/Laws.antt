@@ -4,22 +4,22 @@
 use mathlib.Core.Path.{◌≡◌, refl, sym, ap, subst, ◌∙◌}
 use mathlib.Core.Bool.{Bool, true, false, cond}
 use mathlib.Core.List.{List}
-use Prim.Native.Nat.{ℕ, ◌+◌, ◌-◌, ◌*◌, ◌/◌, ◌%◌, ◌<◌, ◌≤◌}
+use Prim.Native.Nat.{ℕ, suc, ◌+◌, ◌-◌, ◌*◌, ◌/◌, ◌%◌, ◌<◌, ◌≤◌}
 use native.Mathlib.Nat.{mul-le-mul_left, mul-le-mul_right, le_of_lt}
 use native.Mathlib.Omega.{arith}
-use borrow.Author.Tests.{lt-ltb, le-ltb}
-use lib.Dec.{lit<}
-use lib.ListN.{length, get_or, get_or-eq_default}
-use lib.IntN.{ℤ, pos, ◌+ℤ◌, ◌-ℤ◌, ◌*ℤ◌}
+use borrow.Author.Tests.{lt-ltb}
+use lib.Dec.{lit<, ltb}
+use lib.ListN.{length, get_or}
+use mir.Syntax.{w16}
+use mir.Val.{to_z, sel}
+use lib.IntN.{ℤ, pos, negsuc, ◌+ℤ◌, ◌-ℤ◌, ◌*ℤ◌}
 use Rattle.numbers.specs.Numbers.{floor_div, signed, Bits}
-use Rattle.numbers.proofs.Difference.{◌⊖◌, ⊖_eq, ⊖-add, ⊖-sub, ⊖-mul}
-use Rattle.numbers.proofs.Words.{biased, bits-⊖, floor_up}
+use Rattle.numbers.proofs.Difference.{◌⊖◌, is_neg, ⊖_eq, ⊖-add, ⊖-sub, ⊖-mul}
+use Rattle.numbers.proofs.Words.{biased, bits-⊖, floor_up, pos-sub}
 use Rattle.codes.specs.Codes.{value_of}
 use Rattle.control.specs.Control.{flag_of, bank_of, CMPD}
-use Rattle.sample.specs.declared.MemoryWord.{MemoryWord}
-use Rattle.sample.specs.declared.Words.{Words}
-use Rattle.sample.specs.Sample.{MOST_MEMORY_WORDS, word_at, first_at, second_at, sample_of, fetched, missing_of, interpolated}
-use Rattle.sample.specs.Lasts.{last_of}
+use Rattle.sample.specs.Sample.{Words, MOST_MEMORY_WORDS, word_at, first_at, second_at, sample_of, fetched, missing_of, interpolated}
+use Rattle.sample.specs.Lasts.{last_of, Lasts}
 
 -- the value between two samples that are moved up to be no numbers below zero
 module _ (f p q : ℕ) (hf : f < 512) (hp : p < 65536) (hq : q < 65536) where
@@ -61,6 +61,15 @@ pub linear_word : (CR w : ℕ) → flag_of CMPD CR ≡ false → sample_of CR w 
 unfolding sample_of
 linear_word CR w t = rw t
 
+-- the 16 bits of a word, as a signed number
+pub signed_16 : (w : ℕ) → w < 65536 → to_z w16 w ≡ signed 16 w
+unfolding signed
+signed_16 w h = by (ltb w 32768)
+  where
+    by : (b : Bool) → sel b (pos w) (negsuc (65536 - suc w)) ≡ cond b (pos w) (pos w -ℤ pos 65536)
+    by true = refl
+    by false = sym (pos-sub w 65536 ∙ is_neg w 65536 (65536 - suc w) (omega arith))
+
 -- what a word stands for depends on CMPD alone, and a fetch on the bank
 pub sample_coded : (c d w : ℕ) → flag_of CMPD c ≡ flag_of CMPD d → sample_of c w ≡ sample_of d w
 unfolding sample_of
@@ -71,26 +80,16 @@ unfolding fetched first_at second_at
 fetched_bank memory c d ACCUM e = rw e
 
 -- below the last word of the bank, the next word is the next in memory, and is lent
-pub below_last : (n b i : ℕ) {at next last : ℕ} → i < 2097152 → at ≡ b * 2097152 + i → next ≡ b * 2097152 + (i + 1) % 2097152 → last ≡ last_of n b
-    → at < last → (next ≡ at + 1) × (next < n)
+pub below_last : (n b i : ℕ) {lasts : List ℕ} {at : ℕ} → Lasts n lasts → b < 4 → i < 2097152 → at ≡ b * 2097152 + i → at < get_or lasts b 0
+    → (at + 1 ≡ b * 2097152 + (i + 1) % 2097152) × (at + 1 < n)
 unfolding last_of
-below_last n b i h e f g k = (omega arith, omega arith)
+below_last n b i l h g e k = let f = l.each b h in (omega arith, omega arith)
 
 -- ---- missing words
 
-same_word : {a b : ℕ} {p q : Bool} → a ≡ b → p ≡ q → ◌≡◌ {A = MemoryWord} (record { bits = a; there = p }) (record { bits = b; there = q })
-same_word e f = λ i. record { bits = e i; there = f i }
-
--- a word of the memory, and one beyond it
-module _ (memory : List ℕ) (i : ℕ) where
-  pub word_there : i < length memory → record { bits = get_or memory i 0; there = true } ≡ word_at memory i
-  word_there h = same_word refl (sym (lt-ltb i _ (omega arith)))
-
-  pub word_missing : length memory ≤ i → record { bits = 0; there = false } ≡ word_at memory i
-  word_missing h = same_word (sym (get_or-eq_default memory 0 h)) (sym (le-ltb i _ (omega arith)))
-
-pub same_words : {a b c d : MemoryWord} → a ≡ b → c ≡ d → ◌≡◌ {A = Words} (record { first = a; second = c }) (record { first = b; second = d })
-same_words e f = λ i. record { first = e i; second = f i }
+-- a word of the memory that is there
+pub word_there : (memory : List ℕ) (i : ℕ) → i < length memory → record { bits = get_or memory i 0; there = true } ≡ word_at memory i
+word_there memory i h = ap (λ (t : Bool). record { bits = get_or memory i 0; there = t }) (sym (lt-ltb i _ (omega arith)))
 
 pub one_most : (there : Bool) → cond there 0 1 ≤ 1
 one_most true = omega arith

@@ -1,11 +1,9 @@
 -- The sample of a voice: the two words that it fetches from sample memory, each with whether it was there; how many were missing; what a word
 -- stands for, and the value between two. Assumes nothing.
-use Rattle.std.specs.Prelude.{ℕ, ◌+◌, ◌*◌, ◌/◌, ◌%◌, Bool, cond, List, ltb, ℤ, pos, ◌+ℤ◌, ◌-ℤ◌, ◌*ℤ◌, length, get_or}
+use Rattle.std.specs.Prelude.{ℕ, ◌+◌, ◌*◌, ◌/◌, ◌%◌, Bool, true, false, cond, Option, None, Some, List, ltb, ℤ, pos, ◌+ℤ◌, ◌-ℤ◌, ◌*ℤ◌, length, get_or}
 use Rattle.numbers.specs.Numbers.{floor_div, signed}
 use Rattle.codes.specs.Codes.{value_of}
 use Rattle.control.specs.Control.{flag_of, bank_of, CMPD}
-use Rattle.sample.specs.declared.MemoryWord.{MemoryWord}
-use Rattle.sample.specs.declared.Words.{Words}
 
 -- how many words a bank has, and how many the memory may have at most: four banks
 abbrev pub BANK_WORDS : ℕ
@@ -21,6 +19,20 @@ too_many_words n = ltb MOST_MEMORY_WORDS n
 -- what one sample is in START, END and ACCUM, which also have a fraction of one
 abbrev pub WHOLE_SAMPLE : ℕ
 WHOLE_SAMPLE = 2048
+
+-- a word that was asked for, 0 where it was not there, and whether it was; and the two words of a fetch
+pub record MemoryWord : Type 0 where
+  pub bits : ℕ
+  pub there : Bool
+
+pub record Words : Type 0 where
+  pub first : MemoryWord
+  pub second : MemoryWord
+
+-- as the code has a word: None is one that was not there
+abbrev pub as_word : Option ℕ → MemoryWord
+as_word None = record { bits = 0; there = false }
+as_word (Some bits) = record { bits = bits; there = true }
 
 -- a word of the lent memory, and whether it is there; one beyond the memory is 0, and is not
 abbrev pub word_at : List ℕ → ℕ → MemoryWord

@@ -1,7 +1,7 @@
 -- A turn as the code goes about it, on the voice's own twenty words: what its functions promise to one another and to the frame.
 -- In order: the words after the filters, after the address step and after the ramps, each by itself; what the filters promise; what a turn
 -- promises. Assumes nothing.
-use Rattle.std.specs.Prelude.{◌≡◌, cond, List, ℕ, ℤ, get_or}
+use Rattle.std.specs.Prelude.{◌≡◌, cond, List, ℕ, ℤ, pos, get_or, Option, None, Some}
 use Rattle.numbers.specs.Numbers.{Bits, Within}
 use Rattle.control.specs.Control.{channel_of, runs}
 use Rattle.address.specs.Address.{stepped}
@@ -27,6 +27,11 @@ unfoldable pub after_ramps : ℕ → List ℕ → List ℕ
 after_ramps slow w = let v = voice_of w in words_of (moved v (place_of v) (ramped_levels slow v))
 
 -- ---- the promises
+
+-- what a turn gave as what it adds: None is an addend of channel 7, which is none
+abbrev pub as_addend : Option Addend → Addend
+as_addend None = record { channel = 7; left = pos 0; right = pos 0 }
+as_addend (Some a) = a
 
 -- x has passed: the words afterwards, and pole 4's output
 pub record Passes (x : ℤ) (w after : List ℕ) (o4 : ℤ) : Type 0 where

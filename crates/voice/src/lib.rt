@@ -4,22 +4,24 @@
 //! The words are read and stored where they stand: no copy of the voice is made.
 #![tactic(auto)]
 
-ghost use Rattle.std.specs.Prelude.{◌≡◌, cond, ◌+◌, ◌^◌, ◌<◌, pos, length, get_or};
+ghost use Rattle.std.specs.Prelude.{◌≡◌, cond, ◌+◌, ◌^◌, ◌<◌, pos, true, length, get_or, IsSome, ◌↔◌};
 ghost use Rattle.numbers.specs.Numbers.{Bits};
-ghost use Rattle.codes.specs.Codes.{Expands};
 ghost use Rattle.control.specs.Control.{runs};
 ghost use Rattle.filter.specs.PoleBits.{PoleBits};
-ghost use Rattle.sample.specs.Lasts.{Lasts};
 ghost use Rattle.machine.specs.Words.{VOICE_WORDS, CR, FC, ACCUM};
 ghost use Rattle.voice.specs.Voice.{voice_of};
 ghost use Rattle.voice.specs.Turn.{sampled, last_outputs, levels_of};
 ghost use Rattle.voice.specs.Missed.{missed_by};
 ghost use Rattle.voice.specs.Ranges.{Ranges, Leveled};
-ghost use Rattle.voice.specs.Takes.{after_step, after_ramps, Passes, TakesTurn};
+ghost use Rattle.voice.specs.Takes.{after_step, after_ramps, Passes, TakesTurn, as_addend};
 
 use filter::Poles;
+use sample::Samples;
 
-/// What a turn adds to the left and right sums of a channel; channel 7 is none.
+// The words of a voice.
+type Words = [u32; machine::VOICE_WORDS];
+
+/// What a turn adds to the left and right sums of a channel.
 #[derive(Clone, Copy, Debug, PartialEq, Eq)]
 pub struct Addend {
     pub channel: u32,
@@ -28,73 +30,54 @@ pub struct Addend {
 }
 
 /// A turn of the voice whose words are w, at the slow-ramp counter slow, over the lent sample
-/// memory and the table of codes. How many words of that memory it misses is added to `missing`.
-pub fn turn(
-    w: &mut [u32],
-    slow: u32,
-    memory: &[u16],
-    lasts: &[usize; 4],
-    table: &[i16; 256],
-    missing: &mut u32,
-) -> Addend
+/// memory; None where the voice is stopped. How many words of that memory it misses is added to
+/// `missing`.
+pub fn turn(w: &mut [u32], slow: u32, samples: &Samples, missing: &mut u32) -> Option<Addend>
     requires w_len { length w.old ≡ VOICE_WORDS }
     requires ranges { Ranges (voice_of w.old) }
-    requires lasts { Lasts (length memory.now) lasts.now }
-    requires expands { Expands table.now }
     requires missing_bound { missing.old + 2 < 2 ^ 32 }
-    ensures takes_turn { TakesTurn memory.now slow w.old w.new result }
-    ensures missing_after { missing.new ≡ missing.old + missed_by memory.now (voice_of w.old) }
+    ensures takes_turn { TakesTurn samples.now.memory.now slow w.old w.new (as_addend result) }
+    ensures running { IsSome result ↔ (runs (get_or w.old CR 0) ≡ true) }
+    ensures missing_after { missing.new ≡ missing.old + missed_by samples.now.memory.now (voice_of w.old) }
 {
+    let Some(w) = w.as_mut_array() else {
+        unreachable!()
+    };
     let cr = w[machine::CR];
-    let x = input(w, cr, memory, lasts, table, missing);
+    let x = input(w, cr, samples, missing);
     let o4 = pass(w, cr, x);
-    if control::running(cr) {
+    let runs = control::running(cr);
+    if runs {
         let left = volume::pan(w[machine::LVOL], o4);
         let right = volume::pan(w[machine::RVOL], o4);
         step(w, cr);
         ramps(w, slow);
-        return Addend {
+        return Some(Addend {
             channel: control::channel(cr),
-            left: left,
-            right: right,
-        };
+            left,
+            right,
+        });
     }
-    // A stopped voice: no sum is looked up for the zeros that it adds.
-    Addend {
-        channel: 7,
-        left: 0,
-        right: 0,
-    }
+    None
 }
 
 // What goes into the filters: the sample that the voice is at, or 0 where it is stopped; such a
 // voice asks for no word, and misses none.
-fn input(
-    w: &[u32],
-    cr: u32,
-    memory: &[u16],
-    lasts: &[usize; 4],
-    table: &[i16; 256],
-    missing: &mut u32,
-) -> i32
-    requires w_len { length w.now ≡ VOICE_WORDS }
+fn input(w: &Words, cr: u32, samples: &Samples, missing: &mut u32) -> i32
     requires cr_value { (cr ≡ get_or w.now CR 0) × (cr < 65536) }
-    requires lasts { Lasts (length memory.now) lasts.now }
-    requires expands { Expands table.now }
     requires missing_bound { missing.old + 2 < 2 ^ 32 }
-    ensures value { (result ≡ cond (runs cr) (sampled memory.now (voice_of w.now)) (pos 0)) × Bits 18 result }
-    ensures missing_after { missing.new ≡ missing.old + missed_by memory.now (voice_of w.now) }
+    ensures value { (result ≡ cond (runs cr) (sampled samples.now.memory.now (voice_of w.now)) (pos 0)) × Bits 18 result }
+    ensures missing_after { missing.new ≡ missing.old + missed_by samples.now.memory.now (voice_of w.now) }
 {
     if !control::running(cr) {
         return 0;
     }
-    sample::interpolate(memory, lasts, table, cr, w[machine::ACCUM], missing)
+    samples.interpolate(cr, w[machine::ACCUM], missing)
 }
 
 // The sample x passes the filters; the new output of pole 4. The old outputs move back first, so
 // that no copy of them is kept.
-fn pass(w: &mut [u32], cr: u32, x: i32) -> i32
-    requires w_len { length w.old ≡ VOICE_WORDS }
+fn pass(w: &mut Words, cr: u32, x: i32) -> i32
     requires ranges { Ranges (voice_of w.old) }
     requires cr_value { cr ≡ get_or w.old CR 0 }
     requires bits { Bits 18 x }
@@ -111,9 +94,8 @@ fn pass(w: &mut [u32], cr: u32, x: i32) -> i32
 }
 
 // The last outputs of the poles.
-fn last_outputs(w: &[u32]) -> Poles
-    requires w_len { length w.now ≡ VOICE_WORDS }
-    requires ranges { Ranges (voice_of w.now) }
+fn last_outputs(w: &Words) -> Poles
+    requires { Ranges (voice_of w.now) }
     ensures { (result ≡ last_outputs (voice_of w.now)) × PoleBits result }
 {
     Poles {
@@ -125,24 +107,24 @@ fn last_outputs(w: &[u32]) -> Poles
 }
 
 // ACCUM goes on: forward to END, in reverse to START. Where it does not pass that loop point
-// nothing else changes, whatever the loop mode.
-fn step(w: &mut [u32], cr: u32)
-    requires w_len { length w.old ≡ VOICE_WORDS }
-    requires cr_value { (cr ≡ get_or w.old CR 0) × (cr < 65536) }
+// nothing else changes, whatever the loop mode. This quick step stays beside `address::step`, which
+// alone would take 608 to 785 instructions more a frame.
+fn step(w: &mut Words, cr: u32)
+    requires { (cr ≡ get_or w.old CR 0) × (cr < 65536) }
     ensures { w.new ≡ after_step w.old }
 {
     let fc = w[machine::FC];
     let accum = w[machine::ACCUM];
     if control::flag(control::DIR, cr) {
-        let t = accum as i64 - fc as i64;
-        if t < w[machine::START] as i64 {
+        let t = i64::from(accum) - i64::from(fc);
+        if t < i64::from(w[machine::START]) {
             step_past(w, cr, fc, accum);
         } else {
             w[machine::ACCUM] = t as u32;
         }
     } else {
-        let t = accum as u64 + fc as u64;
-        if t <= w[machine::END] as u64 {
+        let t = u64::from(accum) + u64::from(fc);
+        if t <= u64::from(w[machine::END]) {
             w[machine::ACCUM] = t as u32;
         } else {
             step_past(w, cr, fc, accum);
@@ -151,8 +133,7 @@ fn step(w: &mut [u32], cr: u32)
 }
 
 // The step that passes a loop point, whether the voice heeds it or not.
-fn step_past(w: &mut [u32], cr: u32, fc: u32, accum: u32)
-    requires w_len { length w.old ≡ VOICE_WORDS }
+fn step_past(w: &mut Words, cr: u32, fc: u32, accum: u32)
     requires cr_value { (cr ≡ get_or w.old CR 0) × (cr < 65536) }
     requires fc_value { (fc ≡ get_or w.old FC 0) × (accum ≡ get_or w.old ACCUM 0) }
     ensures { w.new ≡ after_step w.old }
@@ -163,9 +144,8 @@ fn step_past(w: &mut [u32], cr: u32, fc: u32, accum: u32)
 }
 
 // The ramps move their levels while ECOUNT is not 0.
-fn ramps(w: &mut [u32], slow: u32)
-    requires w_len { length w.old ≡ VOICE_WORDS }
-    requires leveled { Leveled (levels_of (voice_of w.old)) }
+fn ramps(w: &mut Words, slow: u32)
+    requires { Leveled (levels_of (voice_of w.old)) }
     ensures { w.new ≡ after_ramps slow w.old }
 {
     let n = w[machine::ECOUNT];

@@ -1,0 +1,34 @@
+-- `address::event`: each mode leaves the place that the rule's event has in it.
+use mathlib.Core.Path.{refl, ap, ◌∙◌}
+use mir.Facts.{to_z-of_z}
+use Rattle.numbers.specs.Numbers.{word}
+use Rattle.control.specs.Control.{with_bit, STP0, LEI, BLE, DIR}
+use Rattle.address.proofs.Laws.{left_by, left_in, same_place}
+use Rattle.address.proofs.event.Goals as goal
+
+pub returns-in-Stop : goal.returns-in-Stop
+unfolding left_by
+returns-in-Stop c =
+    (same_place refl (c.with_bit.ensures.0 ∙ ap (with_bit STP0 1) c.raise-up.ensures.0) ∙ left_in _ _ _ _ _ c.in-Stop.is c.loop_mode.ensures, c.with_bit.ensures.1)
+
+pub returns-in-Loop : goal.returns-in-Loop
+unfolding left_by
+returns-in-Loop c =
+    (same_place (c.wrap.ensures ∙ ap (word 32) (to_z-of_z c.ranges.across)) c.raise-up.ensures.0 ∙ left_in _ _ _ _ _ c.in-Loop.is c.loop_mode.ensures, c.raise-up.ensures.1)
+
+pub returns-in-Once : goal.returns-in-Once
+unfolding left_by
+returns-in-Once c = (
+  same_place (c.wrap-in-Once.ensures ∙ ap (word 32) (to_z-of_z c.ranges.across))
+      (c.with_bit-in-Once.ensures.0 ∙ ap (with_bit LEI 1) (c.with_bit-once.ensures.0 ∙ ap (with_bit BLE 0) c.raise-up.ensures.0))
+      ∙ left_in _ _ _ _ _ c.in-Once.is c.loop_mode.ensures,
+  c.with_bit-in-Once.ensures.1,
+)
+
+pub returns-in-Turn : goal.returns-in-Turn
+unfolding left_by
+returns-in-Turn c = (
+  same_place (c.wrap-in-Turn.ensures ∙ ap (word 32) (to_z-of_z c.ranges.back)) (c.with_bit-in-Turn.ensures.0 ∙ ap (with_bit DIR _) c.raise-up.ensures.0)
+      ∙ left_in _ _ _ _ _ c.in-Turn.is c.loop_mode.ensures,
+  c.with_bit-in-Turn.ensures.1,
+)
