@@ -1,85 +1,27 @@
-//! Numbers of two and of four bytes, the lowest first, and of two, the highest first: made of their
-//! bytes, and read at a place of a slice; the bytes of a number, the lowest first; and four bytes
-//! put into a slice.
+//! Bytes at a place of a slice: read as an array, and four of them put.
+//! The number that they are is std's `from_le_bytes` or `from_be_bytes`, and the bytes of a number
+//! are its `to_le_bytes`: `proofs/Endian` says that these are this crate's `little`, `big` and
+//! `little_bytes`.
 //! What the places of a file are is the format's own; here is only how its numbers are written.
 #![tactic(auto)]
 
-ghost use Rattle.std.specs.Prelude.{◌≡◌, [], ◌∷◌, ◌+◌, ◌≤◌, length};
-ghost use Rattle.layout.specs.Parts.{with_part};
-ghost use Rattle.layout.specs.Bytes.{little, big, little2_at, little4_at, big2_at, little_bytes};
+ghost use Rattle.std.specs.Prelude.{◌≡◌, ◌+◌, ◌≤◌, length};
+ghost use Rattle.layout.specs.Parts.{part, with_part};
 
-// ---- the lowest byte first
-
-pub fn little2(a: u8, b: u8) -> u16
-    ensures { result ≡ little (a ∷ b ∷ []) }
+/// The N bytes from `at` on.
+pub fn array_at<const N: usize>(bytes: &[u8], at: usize) -> [u8; N]
+    requires { at + N ≤ length bytes.now }
+    ensures { result ≡ part bytes.now at N }
 {
-    a as u16 + 256 * b as u16
+    let mut array = [0; N];
+    array.copy_from_slice(&bytes[at..at + N]);
+    array
 }
-
-pub fn little4(a: u8, b: u8, c: u8, d: u8) -> u32
-    ensures { result ≡ little (a ∷ b ∷ c ∷ d ∷ []) }
-{
-    a as u32 + 256 * b as u32 + 65536 * c as u32 + 16777216 * d as u32
-}
-
-pub fn little2_at(bytes: &[u8], at: usize) -> u16
-    requires { at + 2 ≤ length bytes.now }
-    ensures { result ≡ little2_at bytes.now at }
-{
-    little2(bytes[at], bytes[at + 1])
-}
-
-pub fn little4_at(bytes: &[u8], at: usize) -> u32
-    requires { at + 4 ≤ length bytes.now }
-    ensures { result ≡ little4_at bytes.now at }
-{
-    little4(bytes[at], bytes[at + 1], bytes[at + 2], bytes[at + 3])
-}
-
-pub fn little_bytes2(x: u16) -> [u8; 2]
-    ensures { result ≡ little_bytes 2 x }
-{
-    [(x % 256) as u8, (x / 256 % 256) as u8]
-}
-
-pub fn little_bytes4(x: u32) -> [u8; 4]
-    ensures { result ≡ little_bytes 4 x }
-{
-    let a = x / 256;
-    let b = a / 256;
-    let c = b / 256;
-    [
-        (x % 256) as u8,
-        (a % 256) as u8,
-        (b % 256) as u8,
-        (c % 256) as u8,
-    ]
-}
-
-// ---- the highest byte first
-
-fn big2(a: u8, b: u8) -> u16
-    ensures { result ≡ big (a ∷ b ∷ []) }
-{
-    256 * a as u16 + b as u16
-}
-
-pub fn big2_at(bytes: &[u8], at: usize) -> u16
-    requires { at + 2 ≤ length bytes.now }
-    ensures { result ≡ big2_at bytes.now at }
-{
-    big2(bytes[at], bytes[at + 1])
-}
-
-// ---- bytes put
 
 /// Four bytes in the place of those from `at` on.
-pub fn put4(bytes: &mut [u8], at: usize, a: u8, b: u8, c: u8, d: u8)
+pub fn put4(bytes: &mut [u8], at: usize, four: [u8; 4])
     requires { at + 4 ≤ length bytes.old }
-    ensures { bytes.new ≡ with_part bytes.old at (a ∷ b ∷ c ∷ d ∷ []) }
+    ensures { bytes.new ≡ with_part bytes.old at four }
 {
-    bytes[at] = a;
-    bytes[at + 1] = b;
-    bytes[at + 2] = c;
-    bytes[at + 3] = d;
+    bytes[at..at + 4].copy_from_slice(&four);
 }
