@@ -5,6 +5,7 @@ ghost use Rattle.std.specs.Prelude.{◌≡◌, ◌<◌};
 ghost use Rattle.channel.specs.Channel.{mixed, put_out};
 
 /// The sum of two words, which wraps.
+#[tactic(auto, using(crate::proofs::Laws::mixed_is))]
 pub fn mix(a: u32, b: u32) -> u32
     requires a_bound { a < 8388608 }
     requires b_bound { b < 8388608 }
@@ -14,6 +15,7 @@ pub fn mix(a: u32, b: u32) -> u32
 }
 
 /// What a sum puts out, held to its rails.
+#[tactic(auto, unfolding(crate::specs::Channel::put_out))]
 pub fn put_out(sum: u32) -> i32
     requires { sum < 8388608 }
     ensures { result ≡ put_out sum }

@@ -1,4 +1,5 @@
 pub mod Headed
+pub mod Names
 pub mod Reached
 pub mod Row
 pub mod Named

@@ -3,8 +3,8 @@
 //! Whoever walks over the chunks has the place of the next one as a number.
 #![tactic(auto)]
 
-ghost use Rattle.std.specs.Prelude.{◌≡◌, ◌≤◌, length};
-ghost use Rattle.chunks.specs.Chunks.{RIFF, WAVE, FORMAT, DATA, SAMPLER};
+ghost use Rattle.std.specs.Prelude.{◌≡◌, ◌+◌, ◌≤◌, length};
+ghost use Rattle.layout.specs.Bytes.{little4_at as Bytes-as-little4_at};
 ghost use Rattle.chunks.specs.Walk.{opened_of, reach_of};
 
 pub const MOST_FILE_BYTES: usize = 65536;
@@ -15,6 +15,26 @@ pub const FIRST_CHUNK: usize = 12;
 /// The bytes of a chunk's header, its name and its size.
 pub const HEADER_BYTES: usize = 8;
 
+// Names are four letters as a number, the first in its lowest byte. They are written as numbers,
+// since a constant can't call `u32::from_le_bytes`.
+
+// "RIFF" begins a file, and "WAVE" stands after its length.
+const RIFF: u32 = 0x4646_4952;
+
+const WAVE: u32 = 0x4556_4157;
+
+/// "fmt ": what the samples are.
+pub const FORMAT: u32 = 0x2074_6d66;
+
+/// "data": the samples.
+pub const DATA: u32 = 0x6174_6164;
+
+/// "smpl": how a sampler plays them.
+pub const SAMPLER: u32 = 0x6c70_6d73;
+
+/// A chunk: its name, the place of its first byte in the file, and how many bytes it has.
+// No letters and no slice: the rules of a file (`named`, `samples_of`, `InFile`) and the theorem of
+// tuning (`in_tune`) are over these three numbers.
 #[derive(Clone, Copy, Debug, PartialEq, Eq)]
 pub struct Chunk {
     pub name: u32,
@@ -22,100 +42,46 @@ pub struct Chunk {
     pub size: usize,
 }
 
-/// What the start of a file comes to.
-#[derive(Clone, Copy, Debug, PartialEq, Eq)]
-pub enum Opened {
-    /// It is too long, no RIFF/WAVE, or shorter than it says.
-    Unheaded,
-    /// Its chunks go up to this byte.
-    Upto(usize),
-}
-
-/// What stands at a place.
-#[derive(Clone, Copy, Debug, PartialEq, Eq)]
-pub enum Reach {
-    /// A chunk that runs past the end, or fewer bytes than a chunk begins with.
-    Past,
-    /// A whole one, and the place of the next.
-    Whole { chunk: Chunk, next: usize },
-}
-
-pub fn open(file: &[u8]) -> Opened
+/// The byte up to which a file's chunks go; none where it is too long, no RIFF/WAVE, or shorter
+/// than it says.
+#[tactic(auto, unfolding(crate::specs::Walk::opened_of, crate::specs::Chunks::is_headed, layout::specs::Bytes::little))]
+pub fn open(file: &[u8]) -> Option<usize>
     ensures { result ≡ opened_of file.now }
 {
-    if MOST_FILE_BYTES < file.len() {
-        return Opened::Unheaded;
+    if file.len() > MOST_FILE_BYTES || file.len() < FIRST_CHUNK {
+        return None;
     }
-    if file.len() < FIRST_CHUNK {
-        return Opened::Unheaded;
+    if number_at(file, 0) != RIFF || number_at(file, 8) != WAVE {
+        return None;
     }
-    if layout::little4_at(file, 0) != riff() {
-        return Opened::Unheaded;
-    }
-    if layout::little4_at(file, 8) != wave() {
-        return Opened::Unheaded;
-    }
-    let size = layout::little4_at(file, 4) as usize;
-    if size < 4 {
-        return Opened::Unheaded;
-    }
-    if file.len() < HEADER_BYTES + size {
-        return Opened::Unheaded;
-    }
-    Opened::Upto(HEADER_BYTES + size)
+    let size = number_at(file, 4) as usize;
+    let end = HEADER_BYTES + size;
+    (size >= 4 && end <= file.len()).then_some(end)
 }
 
-/// The chunk whose header begins at a place. Its size may be any number of 32 bits, which a sum of
-/// 64 holds.
-pub fn chunk_at(file: &[u8], end: usize, at: usize) -> Reach
+/// The chunk whose header begins at a place, and the place of the next; none where it runs past
+/// the end. Its size may be any number of 32 bits, which a sum of 64 holds.
+#[tactic(auto, unfolding(crate::specs::Walk::reach_of, crate::specs::Chunks::is_whole, crate::specs::Chunks::chunk_at))]
+pub fn chunk_at(file: &[u8], end: usize, at: usize) -> Option<(Chunk, usize)>
     requires at_le_end { at ≤ end }
     requires end_in_bounds { end ≤ length file.now }
     ensures { result ≡ reach_of file.now end at }
 {
     if end - at < HEADER_BYTES {
-        return Reach::Past;
+        return None;
     }
-    let name = layout::little4_at(file, at);
-    let size = layout::little4_at(file, at + 4) as usize;
+    let name = number_at(file, at);
+    let size = number_at(file, at + 4) as usize;
     let place = at + HEADER_BYTES;
     let next = place + (size + size % 2);
-    if end < next {
-        return Reach::Past;
-    }
-    Reach::Whole {
-        chunk: Chunk { name, place, size },
-        next,
-    }
+    (next <= end).then_some((Chunk { name, place, size }, next))
 }
 
-// ---- names
-
-fn riff() -> u32
-    ensures { result ≡ RIFF }
+// A number of four bytes, the lowest first.
+#[tactic(auto, using(layout::proofs::Endian::little_4_at))]
+fn number_at(file: &[u8], at: usize) -> u32
+    requires { at + 4 ≤ length file.now }
+    ensures { result ≡ Bytes-as-little4_at file.now at }
 {
-    layout::little4(b'R', b'I', b'F', b'F')
-}
-
-fn wave() -> u32
-    ensures { result ≡ WAVE }
-{
-    layout::little4(b'W', b'A', b'V', b'E')
-}
-
-pub fn format() -> u32
-    ensures { result ≡ FORMAT }
-{
-    layout::little4(b'f', b'm', b't', b' ')
-}
-
-pub fn data() -> u32
-    ensures { result ≡ DATA }
-{
-    layout::little4(b'd', b'a', b't', b'a')
-}
-
-pub fn sampler() -> u32
-    ensures { result ≡ SAMPLER }
-{
-    layout::little4(b's', b'm', b'p', b'l')
+    u32::from_le_bytes(layout::array_at(file, at))
 }

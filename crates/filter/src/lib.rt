@@ -2,12 +2,43 @@
 //! them so.
 #![tactic(auto)]
 
-ghost use Rattle.std.specs.Prelude.{◌≡◌, ◌<◌, pos, ◌*ℤ◌};
+ghost use Rattle.std.specs.Prelude.{◌≡◌, ◌<◌, ℕ, ℤ, pos, ◌*ℤ◌};
 ghost use Rattle.numbers.specs.Numbers.{floor_div, Bits};
 ghost use Rattle.filter.specs.Filter.{low_pass, high_pass, coefficient, pole3, pole4, filtered};
 ghost use Rattle.filter.specs.PoleBits.{PoleBits};
 
-/// The last outputs of poles 1 to 4.
+use std::marker::Model;
+
+// What goes into a pole and comes out of it, a number of 18 bits.
+#[derive(Clone, Copy)]
+struct Output(i32);
+
+impl Model for Output {
+    ghost Value = { ℤ };
+
+    ghost view = { λ y. y.0 };
+
+    ghost invariant = { λ y. Bits 18 y.0 };
+
+    ghost inverse = { λ y. record { 0 = y } };
+}
+
+// A pole's coefficient, of 12 bits.
+#[derive(Clone, Copy)]
+struct Coefficient(u32);
+
+impl Model for Coefficient {
+    ghost Value = { ℕ };
+
+    ghost view = { λ k. k.0 };
+
+    ghost invariant = { λ k. k.0 < 4096 };
+
+    ghost inverse = { λ k. record { 0 = k } };
+}
+
+/// The last outputs of poles 1 to 4. They are plain numbers, which any caller may make: that each
+/// has 18 bits is what `filter` asks, and promises.
 #[derive(Clone, Copy, Debug, PartialEq, Eq)]
 pub struct Poles {
     pub o1: i32,
@@ -24,28 +55,24 @@ pub fn filter(cr: u32, k1: u32, k2: u32, x: i32, p: Poles) -> Poles
     requires pole_bits { PoleBits p }
     ensures { (result ≡ filtered cr k1 k2 x p) × PoleBits result }
 {
-    let a = k1 / 16;
-    let b = k2 / 16;
-    let y1 = low_pass(a, x, p.o1);
-    let y2 = low_pass(a, y1, p.o2);
-    let y3 = third(cr, a, b, y2, p.o2, p.o3);
-    let y4 = fourth(cr, b, y3, p.o3, p.o4);
+    let (k1, k2) = (Coefficient(k1 / 16), Coefficient(k2 / 16));
+    let y1 = low_pass(k1, Output(x), Output(p.o1));
+    let y2 = low_pass(k1, y1, Output(p.o2));
+    let y3 = third(cr, k1, k2, y2, Output(p.o2), Output(p.o3));
+    let y4 = fourth(cr, k2, y3, Output(p.o3), Output(p.o4));
     Poles {
-        o1: y1,
-        o2: y2,
-        o3: y3,
-        o4: y4,
+        o1: y1.0,
+        o2: y2.0,
+        o3: y3.0,
+        o4: y4.0,
     }
 }
 
-// Pole 3, of the kind that LP4 and LP3 say.
-fn third(cr: u32, k1: u32, k2: u32, x: i32, xp: i32, yp: i32) -> i32
-    requires k1_bound { k1 < 4096 }
-    requires k2_bound { k2 < 4096 }
-    requires bits { Bits 18 x }
-    requires bits_2 { Bits 18 xp }
-    requires bits_3 { Bits 18 yp }
-    ensures { (result ≡ pole3 cr k1 k2 x xp yp) × Bits 18 result }
+// Pole 3, of the kind that LP4 and LP3 say: two tests, which an enum of the four kinds would only
+// make once more.
+#[tactic(auto, unfolding(crate::specs::Filter::pole3, crate::specs::Filter::pole4))]
+fn third(cr: u32, k1: Coefficient, k2: Coefficient, x: Output, xp: Output, yp: Output) -> Output
+    ensures { result ≡ pole3 cr k1 k2 x xp yp }
 {
     if control::flag(control::LP3, cr) {
         low_pass(k1, x, yp)
@@ -55,12 +82,9 @@ fn third(cr: u32, k1: u32, k2: u32, x: i32, xp: i32, yp: i32) -> i32
 }
 
 // Pole 4, of the kind that LP4 says.
-fn fourth(cr: u32, k2: u32, x: i32, xp: i32, yp: i32) -> i32
-    requires k2_bound { k2 < 4096 }
-    requires bits { Bits 18 x }
-    requires bits_2 { Bits 18 xp }
-    requires bits_3 { Bits 18 yp }
-    ensures { (result ≡ pole4 cr k2 x xp yp) × Bits 18 result }
+#[tactic(auto, unfolding(crate::specs::Filter::pole4))]
+fn fourth(cr: u32, k2: Coefficient, x: Output, xp: Output, yp: Output) -> Output
+    ensures { result ≡ pole4 cr k2 x xp yp }
 {
     if control::flag(control::LP4, cr) {
         low_pass(k2, x, yp)
@@ -69,30 +93,22 @@ fn fourth(cr: u32, k2: u32, x: i32, xp: i32, yp: i32) -> i32
     }
 }
 
-fn low_pass(k: u32, x: i32, yp: i32) -> i32
-    requires k_bound { k < 4096 }
-    requires bits { Bits 18 x }
-    requires bits_2 { Bits 18 yp }
-    ensures { (result ≡ low_pass k x yp) × Bits 18 result }
+fn low_pass(k: Coefficient, x: Output, yp: Output) -> Output
+    ensures { result ≡ low_pass k x yp }
 {
-    yp + ((k as i32 * (x - yp)) >> 12)
+    Output(yp.0 + ((k.0 as i32 * (x.0 - yp.0)) >> 12))
 }
 
-fn high_pass(k: u32, x: i32, xp: i32, yp: i32) -> i32
-    requires k_bound { k < 4096 }
-    requires bits { Bits 18 x }
-    requires bits_2 { Bits 18 xp }
-    requires bits_3 { Bits 18 yp }
-    ensures { (result ≡ high_pass k x xp yp) × Bits 18 result }
+fn high_pass(k: Coefficient, x: Output, xp: Output, yp: Output) -> Output
+    ensures { result ≡ high_pass k x xp yp }
 {
-    numbers::hold(-131072, 131071, x - xp + scaled(4096 + k, yp))
+    Output(numbers::hold(-131072, 131071, x.0 - xp.0 + scaled(4096 + k.0, yp).0))
 }
 
 // The part of its last output that a high pass keeps: f / 8192 of y, rounded down.
-fn scaled(f: u32, y: i32) -> i32
-    requires f_bound { f < 8192 }
-    requires bits { Bits 18 y }
-    ensures { (result ≡ floor_div (pos f *ℤ y) 8192) × Bits 18 result }
+fn scaled(f: u32, y: Output) -> Output
+    requires { f < 8192 }
+    ensures { result ≡ floor_div (pos f *ℤ y) 8192 }
 {
-    (f as i32 * y) >> 13
+    Output((f as i32 * y.0) >> 13)
 }

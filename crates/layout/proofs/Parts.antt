@@ -1,15 +1,16 @@
 -- Laws of a part of a list, read and replaced.
 -- In order: a part's length and its elements, and that it is one of the first elements too; a part put at the start; the list with a part replaced: its
--- length, what stands in the part, before it and after it, and up to its end; a part that is made longer, by another part or by an element; four
--- elements put one by one.
--- Assumes nothing.
+-- length, what stands in the part, before it and after it, and up to its end; a part that is made longer by another; the arrays that a list is cut
+-- into. Assumes nothing.
 use mathlib.Core.Path.{◌≡◌, refl, sym, ap, ◌∙◌}
 use mathlib.Core.List.{List, [], ◌∷◌, ◌++◌, append_assoc}
-use Prim.Native.Nat.{ℕ, suc, ◌+◌, ◌-◌, ◌≤◌, ◌<◌}
+use Prim.Native.Nat.{ℕ, zero, suc, ◌+◌, ◌-◌, ◌*◌, ◌≤◌, ◌<◌}
+use native.Mathlib.Nat.{mul-zero, mul-suc}
 use native.Mathlib.Numerals.{add-one}
 use native.Mathlib.Omega.{arith}
 use lib.ListN.{length, get_or, set, take, drop, length-append, length-drop, take-append-drop, get_or-append}
 use lib.Seq.{length-take-le, drop-cons, take-append-le, drop-append-le, get_or-append-add, get_or-take, get_or-drop, take_at, drop_at, drop-drop, set_split}
+use Rattle.std.specs.Simd.{first_chunks}
 use Rattle.layout.specs.Parts.{part, with_part}
 
 module _ {ℓ} {A : Type ℓ} where
@@ -87,18 +88,10 @@ module _ {ℓ} {A : Type ℓ} where
         (append_assoc (take i xs) ys (zs ++ drop (i + length (ys ++ zs)) xs)
         ∙ ap (λ (l : List A). take i xs ++ l) (sym (append_assoc ys zs (drop (i + length (ys ++ zs)) xs))))
 
-    -- and so is one element
-    put_more : (z : A) → i + length ys < length xs → set (with_part xs i ys) (i + length ys) z ≡ with_part xs i (ys ++ z ∷ [])
-    put_more z h =
-        set_split (with_part xs i ys) (i + length ys) z (rw with_length h)
-        ∙ rw (sym (add-one (i + length ys))) (with_more (z ∷ []))
-
--- four elements put one after the other, from index i on, are a part replaced
-pub put_4 : (xs : List ℕ) (i a b c d : ℕ) → i + 4 ≤ length xs
-    → set (set (set (set xs i a) (i + 1) b) (i + 2) c) (i + 3) d ≡ with_part xs i (a ∷ b ∷ c ∷ d ∷ [])
-put_4 xs i a b c d h =
-    let first : set xs i a ≡ with_part xs i (a ∷ []) = set_split xs i a (omega arith) ∙ rw (sym (add-one i)) refl in
-    rw first
-    (rw (put_more xs i (a ∷ []) (omega arith) b (omega arith))
-    (rw (put_more xs i (a ∷ b ∷ []) (omega arith) c (omega arith))
-    (put_more xs i (a ∷ b ∷ c ∷ []) (omega arith) d (omega arith))))
+-- the arrays of n elements that a list is cut into are its parts
+pub chunk_is : {X : Type 0} → (n k : ℕ) (xs : List X) (i : ℕ) → i < k → get_or (first_chunks n k xs) i [] ≡ part xs (n * i) n
+chunk_is n zero xs i h = absurd (omega arith)
+chunk_is n (suc k) xs zero h = rw mul-zero refl
+chunk_is n (suc k) xs (suc i) h =
+    let e : n + n * i ≡ n * suc i = omega (arith, mul-suc n i) in
+    chunk_is n k (drop n xs) i (omega arith) ∙ ap (take n) (drop-drop (n * i) n xs ∙ ap (λ (m : ℕ). drop m xs) e)

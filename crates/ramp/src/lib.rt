@@ -14,6 +14,7 @@ pub fn ramp(value: u32, by: u32) -> u32
 }
 
 /// A coefficient moved by its ramp, which may be slow.
+#[tactic(auto, unfolding(crate::specs::Ramp::slow_ramped))]
 pub fn slow_ramp(slow: u32, value: u32, by: u32) -> u32
     requires { value < 65536 }
     ensures { (result ≡ slow_ramped slow value by) × (result < 65536) }

@@ -15,11 +15,9 @@ use Rattle.control.specs.Control.{bit_of, flag_of, with_bit, runs, LEI, LPE, BLE
 use Rattle.layout.specs.Bytes.{little, twos}
 use Rattle.sample.specs.Sample.{WHOLE_SAMPLE}
 use Rattle.chunks.specs.Chunks.{chunks_of, chunk_at, is_whole, before, chunks_from, is_headed, listing, is_unreadable, chunks_in, named}
-use Rattle.wave.specs.Wave.{data_of, count_of, loop_of, first_of, is_once, any_short, is_mono16, is_sampler_short, loop_in, first_sampler_short, first_loop, is_broken}
+use Rattle.wave.specs.Wave.{data_of, count_of, Present, loop_of, first_of, is_once, any_short, is_mono16, is_sampler_short, loop_in, first_sampler_short, first_loop, is_broken}
 use Rattle.wave_in.specs.Registers.{register_at, start_of, end_of, type_bits, loop_bits}
-use Rattle.wave_in.specs.Import.{is_loop_invalid, import_answer, taken_at, imported, is_miscounted, is_other_format, has_no_place}
-use Rattle.wave_in.specs.declared.Imported.{Imported}
-use Rattle.wave.specs.declared.Loop.TheVariants.{Present}
+use Rattle.wave_in.specs.Import.{is_loop_invalid, import_answer, taken_at, Imported, imported, is_miscounted, is_other_format, has_no_place}
 use Rattle.wave_in.proofs.Importing.{importable, end_fits}
 use Rattle.wave_in.proofs.Corollaries.{same_done, import_done}
 use Rattle.wave_in.proofs.Files.{whole, mono, two_samples, sampler}

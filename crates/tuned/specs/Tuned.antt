@@ -6,10 +6,8 @@ use Rattle.answer.specs.Answer.{is_done}
 use Rattle.control.specs.Control.{flag_of, runs, LEI, LPE, BLE, DIR}
 use Rattle.sample.specs.Sample.{WHOLE_SAMPLE}
 use Rattle.chunks.specs.Chunks.{chunks_of}
-use Rattle.wave.specs.Wave.{loop_of}
-use Rattle.wave_in.specs.Import.{Imports}
-use Rattle.wave_in.specs.declared.Imported.{Imported}
-use Rattle.wave.specs.declared.Loop.TheVariants.{Present}
+use Rattle.wave.specs.Wave.{Present, loop_of}
+use Rattle.wave_in.specs.Import.{Imported, Imports}
 use Rattle.voice.specs.Voice.{Voice}
 use Rattle.voice.specs.Tune.{turns_of, Kind, Forward, Reverse, Bidirectional, period_of, InTune}
 

@@ -6,17 +6,15 @@ use mathlib.Core.Bool.{true, false, ◌||◌, or-true, or_assoc}
 use mathlib.Core.List.{List, [], ◌∷◌, ◌++◌, append_assoc, append-nil}
 use Prim.Native.Nat.{ℕ, ◌+◌, ◌-◌, ◌≤◌, ◌<◌}
 use native.Mathlib.Omega.{arith}
+use Rattle.std.specs.Prelude.{Option, Some, None}
 use Rattle.chunks.specs.Chunks.{Listing, unreadable, chunks, before, chunks_from, chunk_at, next, FIRST_CHUNK}
 use Rattle.chunks.specs.Walk.{reach_of}
 use Rattle.chunks.specs.declared.Chunk.{Chunk}
-use Rattle.chunks.specs.declared.Reach.{Reach}
-use Rattle.chunks.specs.declared.Reach.TheVariants.{Past, Whole}
 use Rattle.chunks.proofs.Reached.{was_past, was_whole}
 use Rattle.chunks.proofs.Row.{whole_before, goes_on, no_chunk, one_chunk}
 use Rattle.wave.specs.Wave.{is_short, any_short}
 use Rattle.wave.specs.Parse.{found_of, with_chunk, collected_of}
 use Rattle.wave.specs.declared.Found.{Found}
-use Rattle.wave.specs.declared.Parsed.TheVariants.{Broken, Unbroken}
 use Rattle.wave.proofs.Keeping.{found_more}
 
 -- ---- short format chunks
@@ -52,7 +50,7 @@ joined_more cs c unreadable = refl
 joined_more cs c (chunks ds) = ap chunks (sym (append_assoc cs (c ∷ []) ds))
 
 -- a short format chunk that is done makes the file broken, whatever follows
-short_joined : (cs : List Chunk) (r : Listing) → any_short cs ≡ true → Broken ≡ collected_of (joined cs r)
+short_joined : (cs : List Chunk) (r : Listing) → any_short cs ≡ true → None ≡ collected_of (joined cs r)
 unfolding joined collected_of
 short_joined cs unreadable h = refl
 short_joined cs (chunks ds) h = rw (short_append cs ds, h)
@@ -69,12 +67,12 @@ begun file end f e h = record {
   within = h;
 }
 
-module _ {file : List ℕ} {end : ℕ} {found : Found} {i : ℕ} (p : Progress file end found i) (r : Reach) (read : r ≡ reach_of file end i) (on : i < end) where
-  pub stops : r ≡ Past → Broken ≡ collected_of (chunks_from end file end FIRST_CHUNK)
+module _ {file : List ℕ} {end : ℕ} {found : Found} {i : ℕ} (p : Progress file end found i) (r : Option (Chunk × ℕ)) (read : r ≡ reach_of file end i) (on : i < end) where
+  pub stops : r ≡ None → None ≡ collected_of (chunks_from end file end FIRST_CHUNK)
   unfolding joined collected_of
   stops e = rw (p.so_far, one_chunk file end p.left i on p.enough, was_past file end i r read e)
 
-  module _ (c : Chunk) (n : ℕ) (whole : r ≡ Whole c n) where
+  module _ (c : Chunk) (n : ℕ) (whole : r ≡ Some (c, n)) where
     with_it : chunks_from end file end FIRST_CHUNK ≡ joined (p.done ++ (c ∷ [])) (chunks_from (p.left - 1) file end n)
     with_it =
         let w = was_whole file end i r read c n whole in
@@ -86,7 +84,7 @@ module _ {file : List ℕ} {end : ℕ} {found : Found} {i : ℕ} (p : Progress f
         let g = goes_on file end i in
         rw w.1.1 (omega arith)
 
-    pub too_short : is_short c ≡ true → Broken ≡ collected_of (chunks_from end file end FIRST_CHUNK)
+    pub too_short : is_short c ≡ true → None ≡ collected_of (chunks_from end file end FIRST_CHUNK)
     unfolding any_short
     too_short s = rw with_it (short_joined (p.done ++ (c ∷ [])) (chunks_from (p.left - 1) file end n) (short_append p.done (c ∷ []) ∙ rw (s, or-true (any_short p.done))))
 
@@ -106,6 +104,6 @@ module _ {file : List ℕ} {end : ℕ} {found : Found} {i : ℕ} (p : Progress f
           within = rw w.1.1 b;
         }
 
-pub all_read : {file : List ℕ} {end : ℕ} {found : Found} {i : ℕ} → Progress file end found i → end ≤ i → Unbroken found ≡ collected_of (chunks_from end file end FIRST_CHUNK)
+pub all_read : {file : List ℕ} {end : ℕ} {found : Found} {i : ℕ} → Progress file end found i → end ≤ i → Some found ≡ collected_of (chunks_from end file end FIRST_CHUNK)
 unfolding joined collected_of
 all_read {file} {end} {found} {i} p h = rw (p.so_far, no_chunk file end p.left i h, append-nil p.done, p.full, p.keeps)

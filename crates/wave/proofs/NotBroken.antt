@@ -11,8 +11,8 @@ use Rattle.chunks.specs.Chunks.{listing, is_unreadable, chunks_of, named, FORMAT
 use Rattle.chunks.specs.declared.Chunk.{Chunk}
 use Rattle.chunks.proofs.Named.{Each, each_named}
 use Rattle.wave.specs.Wave.{first_of, is_once, format_of, is_short, any_short, first_sampler_short, is_broken, FORMAT_BYTES}
-use Rattle.wave.specs.Parse.{kept_of, first_sampler_short_of, InFile}
-use Rattle.wave.proofs.Keeping.{once_each, kept_sampler_short}
+use Rattle.wave.specs.Parse.{kept_of, first_sampler_short_of, InFile, FirstInFile}
+use Rattle.wave.proofs.Keeping.{once_each, kept_sampler_short, kept_in}
 use Rattle.wave.proofs.Parsing.{InFileRow, read_row, each_in_file, first_in}
 
 -- it can be read as chunks, no format chunk is short, and no first sampler chunk is
@@ -49,6 +49,9 @@ module _ (file : List ℕ) (s : NotBroken file) where
 
   pub named_in : (n : ℕ) → InFile file (first_of (named n (chunks_of file)))
   named_in n = first_in file (named n (chunks_of file)) (named_in_file n)
+
+  pub sampler_in_file : FirstInFile file (kept_of (named SAMPLER (chunks_of file)))
+  sampler_in_file = kept_in file (named SAMPLER (chunks_of file)) (named_in_file SAMPLER)
 
   pub format_full : is_once (named FORMAT (chunks_of file)) ≡ true → FORMAT_BYTES ≤ (format_of (chunks_of file)).size
   format_full o = once_each Full (named FORMAT (chunks_of file)) o (each_full (chunks_of file) s.full_formats)

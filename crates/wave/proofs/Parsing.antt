@@ -7,35 +7,35 @@ use mathlib.Core.List.{List, [], ◌∷◌}
 use Prim.Native.Nat.{ℕ, ◌≤◌}
 use native.Mathlib.Omega.{arith}
 use lib.ListN.{length}
+use Rattle.std.specs.Prelude.{Option, Some, None}
 use Rattle.chunks.specs.Chunks.{Listing, unreadable, chunks, chunks_from, riff_end, is_headed, listing, is_unreadable, chunks_in, chunks_of, named, SAMPLER, FIRST_CHUNK, MOST_FILE_BYTES}
 use Rattle.chunks.specs.Row.{InRow}
 use Rattle.chunks.specs.declared.Chunk.{Chunk}
-use Rattle.chunks.proofs.Headed.{headed_within}
+use Rattle.chunks.specs.Walk.{opened_of}
+use Rattle.chunks.proofs.Headed.{was_unheaded, was_upto, headed_within}
 use Rattle.chunks.proofs.Row.{listing_row}
 use Rattle.chunks.proofs.Named.{Each, Before, row_before, each_named}
 use Rattle.wave.specs.Wave.{first_of, any_short, first_sampler_short, is_broken}
-use Rattle.wave.specs.Parse.{found_of, first_sampler_short_of, collected_of, parsed_of, InFile}
+use Rattle.wave.specs.Parse.{found_of, first_sampler_short_of, collected_of, parsed_of, InFile, FirstInFile}
 use Rattle.wave.specs.declared.Found.{Found}
-use Rattle.wave.specs.declared.Parsed.{Parsed}
-use Rattle.wave.specs.declared.Parsed.TheVariants.{Broken, Unbroken}
-use Rattle.wave.proofs.Keeping.{kept_sampler_short}
+use Rattle.wave.proofs.Keeping.{kept_sampler_short, kept_in}
 
 -- ---- what the pass came to
 
-by_short : (t : Bool) (f : Found) → (r : Parsed) → r ≡ Broken → r ≡ cond t Broken (Unbroken f) → t ≡ true
+by_short : (t : Bool) (f : Found) → (r : Option Found) → r ≡ None → r ≡ cond t None (Some f) → t ≡ true
 by_short true f r e g = refl
 by_short false f r e g = absurd (let z : ◌≡◌ {A = ℕ} 0 1 = cc in omega arith)
 
-by_found : (t : Bool) (f g : Found) → (r : Parsed) → r ≡ Unbroken g → r ≡ cond t Broken (Unbroken f) → (t ≡ false) × (g ≡ f)
+by_found : (t : Bool) (f g : Found) → (r : Option Found) → r ≡ Some g → r ≡ cond t None (Some f) → (t ≡ false) × (g ≡ f)
 by_found true f g r e h = absurd (let z : ◌≡◌ {A = ℕ} 0 1 = cc in omega arith)
 by_found false f g r e h = (refl, cc)
 
-came_broken : (x : Listing) (r : Parsed) → r ≡ Broken → r ≡ collected_of x → (b : Bool) → (is_unreadable x || (any_short (chunks_in x) || b)) ≡ true
+came_broken : (x : Listing) (r : Option Found) → r ≡ None → r ≡ collected_of x → (b : Bool) → (is_unreadable x || (any_short (chunks_in x) || b)) ≡ true
 unfolding collected_of is_unreadable chunks_in
 came_broken unreadable r e g b = refl
 came_broken (chunks cs) r e g b = rw (by_short (any_short cs) (found_of cs) r e g)
 
-came_found : (x : Listing) (r : Parsed) (f : Found) → r ≡ Unbroken f → r ≡ collected_of x → (is_unreadable x ≡ false) × ((any_short (chunks_in x) ≡ false) × (f ≡ found_of (chunks_in x)))
+came_found : (x : Listing) (r : Option Found) (f : Found) → r ≡ Some f → r ≡ collected_of x → (is_unreadable x ≡ false) × ((any_short (chunks_in x) ≡ false) × (f ≡ found_of (chunks_in x)))
 unfolding collected_of is_unreadable chunks_in
 came_found unreadable r f e g = absurd (let z : ◌≡◌ {A = ℕ} 0 1 = cc in omega arith)
 came_found (chunks cs) r f e g = let b = by_found (any_short cs) (found_of cs) f r e g in (refl, (b.0, b.1))
@@ -55,6 +55,13 @@ is_read : (r : Listing) → is_unreadable r ≡ false → r ≡ chunks (chunks_i
 unfolding is_unreadable chunks_in
 is_read unreadable h = absurd (false≢true (sym h))
 is_read (chunks cs) h = refl
+
+-- where its chunks end
+pub upto_within : (file : List ℕ) (o : Option ℕ) → o ≡ opened_of file → (end : ℕ) → o ≡ Some end → (FIRST_CHUNK ≤ end) × (end ≤ length file)
+upto_within file o opened end upto =
+    let h = was_upto file o opened end upto in
+    let w = headed_within file h.0 in
+    rw h.1 (w.0, w.1)
 
 -- its chunks stand in a row up to the end of its RIFF length, which lies in the file
 pub record InFileRow (file : List ℕ) : Type 0 where
@@ -84,40 +91,40 @@ first_in file (c ∷ cs) e = e.0
 -- ---- the answers
 
 module _ (file : List ℕ) where
-  is_broken_lem : is_broken file ≡ true → Broken ≡ parsed_of file
+  is_broken_lem : is_broken file ≡ true → None ≡ parsed_of file
   unfolding parsed_of
   is_broken_lem e = rw e
 
-  pub no_header : is_headed file ≡ false → Broken ≡ parsed_of file
+  pub no_header : (o : Option ℕ) → o ≡ opened_of file → o ≡ None → None ≡ parsed_of file
   unfolding is_broken listing is_unreadable
-  no_header h = is_broken_lem (rw h)
+  no_header o opened e = is_broken_lem (rw (was_unheaded file o opened e))
 
-  module _ (headed : is_headed file ≡ true) (end : ℕ) (upto : end ≡ riff_end file) (r : Parsed) (pass : r ≡ collected_of (chunks_from end file end FIRST_CHUNK)) where
+  module _ (o : Option ℕ) (opened : o ≡ opened_of file) (end : ℕ) (upto : o ≡ Some end) (r : Option Found) (pass : r ≡ collected_of (chunks_from end file end FIRST_CHUNK)) where
     whole_pass : r ≡ collected_of (listing file)
     unfolding listing
-    whole_pass = pass ∙ rw (headed, upto)
+    whole_pass = let h = was_upto file o opened end upto in pass ∙ rw (h.0, h.1)
 
-    pub no_chunks : r ≡ Broken → Broken ≡ parsed_of file
+    pub no_chunks : r ≡ None → None ≡ parsed_of file
     unfolding is_broken
     no_chunks e = is_broken_lem (came_broken (listing file) r e whole_pass (first_sampler_short file (named SAMPLER (chunks_of file))))
 
-    module _ (f : Found) (found : r ≡ Unbroken f) where
+    module _ (f : Found) (found : r ≡ Some f) where
       pub found_is : f ≡ found_of (chunks_of file)
       found_is = (came_found (listing file) r f found whole_pass).1.1
 
-      pub sampler_in : InFile file f.sampler.first
+      pub sampler_in : FirstInFile file f.sampler
       sampler_in =
           let w = came_found (listing file) r f found whole_pass in
-          rw found_is (first_in file (named SAMPLER (chunks_of file)) (each_named (InFile file) SAMPLER (chunks_of file) (each_in_file file (read_row file w.0))))
+          rw found_is (kept_in file (named SAMPLER (chunks_of file)) (each_named (InFile file) SAMPLER (chunks_of file) (each_in_file file (read_row file w.0))))
 
-      pub sampler_short : first_sampler_short_of file f.sampler ≡ true → Broken ≡ parsed_of file
+      pub sampler_short : first_sampler_short_of file f.sampler ≡ true → None ≡ parsed_of file
       unfolding is_broken
       sampler_short t =
           let w = came_found (listing file) r f found whole_pass in
           let c : first_sampler_short file (named SAMPLER (chunks_of file)) ≡ true = sym (kept_sampler_short file (named SAMPLER (chunks_of file))) ∙ rw found_is at t in
           is_broken_lem (rw (w.0, w.1.0, c))
 
-      pub all_there : first_sampler_short_of file f.sampler ≡ false → Unbroken f ≡ parsed_of file
+      pub all_there : first_sampler_short_of file f.sampler ≡ false → Some f ≡ parsed_of file
       unfolding is_broken parsed_of
       all_there t =
           let w = came_found (listing file) r f found whole_pass in
@@ -126,11 +133,11 @@ module _ (file : List ℕ) where
 
 -- ---- what an answer tells
 
-module _ (file : List ℕ) (r : Parsed) (parsed : r ≡ parsed_of file) where
-  pub was_broken : r ≡ Broken → is_broken file ≡ true
+module _ (file : List ℕ) (r : Option Found) (parsed : r ≡ parsed_of file) where
+  pub was_broken : r ≡ None → is_broken file ≡ true
   unfolding parsed_of
   was_broken e = by_short (is_broken file) (found_of (chunks_of file)) r e parsed
 
-  pub was_found : (f : Found) → r ≡ Unbroken f → (is_broken file ≡ false) × (f ≡ found_of (chunks_of file))
+  pub was_found : (f : Found) → r ≡ Some f → (is_broken file ≡ false) × (f ≡ found_of (chunks_of file))
   unfolding parsed_of
   was_found f e = by_found (is_broken file) (found_of (chunks_of file)) f r e parsed

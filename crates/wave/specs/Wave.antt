@@ -1,12 +1,11 @@
 -- What a WAVE file holds, each rule a sentence over its chunks.
 -- In order: the first of some chunks, and one alone; the format; the data; the sampler and its first loop; a file that is broken. Assumes nothing.
-use Rattle.std.specs.Prelude.{ℕ, ◌+◌, ◌*◌, ◌/◌, Bool, true, false, cond, ◌&&◌, ◌||◌, List, [], ◌∷◌, ltb, eqb}
+use Rattle.std.specs.Prelude.{ℕ, ◌+◌, ◌*◌, ◌/◌, Bool, true, false, cond, ◌&&◌, ◌||◌, List, [], ◌∷◌, ltb, eqb, Option, Some, None}
 use Rattle.layout.specs.Parts.{part}
 use Rattle.layout.specs.Bytes.{little, little2_at, little4_at, twos}
 use Rattle.chunks.specs.Chunks.{listing, is_unreadable, chunks_of, named, FORMAT, DATA, SAMPLER}
 use Rattle.chunks.specs.declared.Chunk.{Chunk}
 use Rattle.wave.specs.declared.Loop.{Loop}
-use Rattle.wave.specs.declared.Loop.TheVariants.{Absent, Present}
 
 -- the first of some chunks; where there is none, one of no bytes
 unfoldable pub first_of : List Chunk → Chunk
@@ -67,7 +66,14 @@ loops_of file c = little4_at file (c.place + 28)
 unfoldable pub is_sampler_short : List ℕ → Chunk → Bool
 is_sampler_short file c = ltb c.size (SAMPLER_BYTES + LOOP_BYTES * loops_of file c)
 
-unfoldable pub loop_in : List ℕ → Chunk → Loop
+-- no loop, and one: its type, its first sample and its last
+abbrev pub Absent : Option Loop
+Absent = None
+
+abbrev pub Present : ℕ → ℕ → ℕ → Option Loop
+Present type start last = Some (record { form = type; start = start; last = last })
+
+unfoldable pub loop_in : List ℕ → Chunk → Option Loop
 loop_in file c =
     let i = c.place + SAMPLER_BYTES in
     cond (eqb (loops_of file c) 0) Absent (Present (little4_at file (i + 4)) (little4_at file (i + 8)) (little4_at file (i + 12)))
@@ -77,11 +83,11 @@ unfoldable pub first_sampler_short : List ℕ → List Chunk → Bool
 first_sampler_short file [] = false
 first_sampler_short file (c ∷ cs) = is_sampler_short file c
 
-unfoldable pub first_loop : List ℕ → List Chunk → Loop
+unfoldable pub first_loop : List ℕ → List Chunk → Option Loop
 first_loop file [] = Absent
 first_loop file (c ∷ cs) = loop_in file c
 
-abbrev pub loop_of : List ℕ → List Chunk → Loop
+abbrev pub loop_of : List ℕ → List Chunk → Option Loop
 loop_of file cs = first_loop file (named SAMPLER cs)
 
 -- ---- the file cannot be read as chunks, or a format chunk, or the first sampler chunk, has less than it must

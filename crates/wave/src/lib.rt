@@ -6,12 +6,12 @@
 //! bytes has at most 8,191. There is no other loop.
 #![tactic(auto)]
 
-ghost use Rattle.std.specs.Prelude.{◌≡◌, false, [], ◌≤◌, length};
+ghost use Rattle.std.specs.Prelude.{◌≡◌, false, ◌≤◌, length};
 ghost use Rattle.chunks.specs.Chunks.{chunks_from, FIRST_CHUNK as Chunks-as-FIRST_CHUNK};
-ghost use Rattle.wave.specs.Wave.{is_short, is_mono16, is_sampler_short, loop_in, FORMAT_BYTES as Wave-as-FORMAT_BYTES};
-ghost use Rattle.wave.specs.Parse.{kept_of, keep as Parse-as-keep, found_of, is_other, with_chunk, found_miscounted, collected_of, parsed_of, first_sampler_short_of, loop_of_kept, InFile};
+ghost use Rattle.wave.specs.Wave.{is_short, is_mono16, is_sampler_short, FORMAT_BYTES as Wave-as-FORMAT_BYTES};
+ghost use Rattle.wave.specs.Parse.{first_kept, kept_more, with_chunk, once_both, collected_of, parsed_of, first_sampler_short_of, loop_of_kept, InFile, FirstInFile};
 
-use chunks::{Chunk, Opened, Reach};
+use chunks::Chunk;
 
 // Bytes that a format chunk has at least, and a sampler chunk; and those of each loop after them.
 const FORMAT_BYTES: usize = 16;
@@ -23,173 +23,137 @@ const LOOP_BYTES: usize = 24;
 // Where a sampler chunk has the number of its loops.
 const LOOP_COUNT: usize = 28;
 
-/// The first loop of a file.
+/// The first loop of a file: its type (`type` is a word of the language), its first sample and its
+/// last.
+// The type is a number, since a file with one that is unknown parses: `import_tests` asks for its
+// format (22) before it asks for its loop (23).
 #[derive(Clone, Copy, Debug, PartialEq, Eq)]
-pub enum Loop {
-    Absent,
-    /// Its type (`type` is a word of the language), its first sample and its last.
-    Present { form: u32, start: u32, last: u32 },
+pub struct Loop {
+    pub form: u32,
+    pub start: u32,
+    pub last: u32,
 }
 
-/// What is kept of the chunks of a name: how many they are, where 2 stands for more as well, and
-/// the first.
-#[derive(Clone, Copy, Debug, PartialEq, Eq)]
-pub struct Kept {
-    pub times: usize,
-    pub first: Chunk,
+/// What is kept of the chunks of a name: the first, and whether it is the only one.
+#[derive(Clone, Copy, Debug, Default, PartialEq, Eq)]
+pub enum Kept {
+    #[default]
+    Missing,
+    Once(Chunk),
+    Again(Chunk),
+}
+
+impl Kept {
+    /// The first of them.
+    pub fn first(self) -> Option<Chunk>
+        ensures { result ≡ first_kept self }
+    {
+        match self {
+            Kept::Missing => None,
+            Kept::Once(first) | Kept::Again(first) => Some(first),
+        }
+    }
+
+    fn add(&mut self, c: Chunk)
+        ensures { self.new ≡ kept_more c self.old }
+    {
+        *self = match *self {
+            Kept::Missing => Kept::Once(c),
+            Kept::Once(first) | Kept::Again(first) => Kept::Again(first),
+        };
+    }
 }
 
 /// What one pass keeps. (The data chunk is `pcm`.)
-#[derive(Clone, Copy, Debug, PartialEq, Eq)]
+#[derive(Clone, Copy, Debug, Default, PartialEq, Eq)]
 pub struct Found {
     pub format: Kept,
     pub pcm: Kept,
     pub sampler: Kept,
 }
 
-/// What a file comes to.
-#[derive(Clone, Copy, Debug, PartialEq, Eq)]
-pub enum Parsed {
-    Broken,
-    Unbroken(Found),
+impl Found {
+    /// The format and the data, where each is there just once.
+    pub fn format_and_data(self) -> Option<(Chunk, Chunk)>
+        ensures { result ≡ once_both self }
+    {
+        match (self.format, self.pcm) {
+            (Kept::Once(format), Kept::Once(pcm)) => Some((format, pcm)),
+            _ => None,
+        }
+    }
+
+    #[tactic(auto, unfolding(layout::specs::Bytes::little))]
+    fn add(&mut self, c: Chunk)
+        ensures { self.new ≡ with_chunk c self.old }
+    {
+        match c.name {
+            chunks::FORMAT => self.format.add(c),
+            chunks::DATA => self.pcm.add(c),
+            chunks::SAMPLER => self.sampler.add(c),
+            _ => {}
+        }
+    }
 }
 
-pub fn parse(file: &[u8]) -> Parsed
+/// What a file that is not broken holds.
+pub fn parse(file: &[u8]) -> Option<Found>
     ensures { result ≡ parsed_of file.now }
 {
-    let Opened::Upto(end) = chunks::open(file) else {
-        return Parsed::Broken;
-    };
-    let Parsed::Unbroken(found) = collect(file, end) else {
-        return Parsed::Broken;
-    };
-    let sampler = found.sampler;
-    if first_sampler_short(file, sampler) {
-        return Parsed::Broken;
+    let end = chunks::open(file)?;
+    let found = collect(file, end)?;
+    match found.sampler.first() {
+        Some(sampler) if is_sampler_short(file, sampler) => None,
+        _ => Some(found),
     }
-    Parsed::Unbroken(found)
 }
 
 // One pass over the chunks.
-fn collect(file: &[u8], end: usize) -> Parsed
+fn collect(file: &[u8], end: usize) -> Option<Found>
     requires le_end { Chunks-as-FIRST_CHUNK ≤ end }
     requires end_in_bounds { end ≤ length file.now }
     ensures { result ≡ collected_of (chunks_from end file.now end Chunks-as-FIRST_CHUNK) }
 {
-    let mut found = nothing();
+    let mut found = Found::default();
     let mut at = chunks::FIRST_CHUNK;
     while at < end {
-        let Reach::Whole { chunk, next } = chunks::chunk_at(file, end, at) else {
-            return Parsed::Broken;
-        };
+        let (chunk, next) = chunks::chunk_at(file, end, at)?;
         if is_short(chunk) {
-            return Parsed::Broken;
+            return None;
         }
-        found = with_chunk(chunk, found);
+        found.add(chunk);
         at = next;
     }
-    Parsed::Unbroken(found)
+    Some(found)
 }
 
+#[tactic(auto, unfolding(layout::specs::Bytes::little))]
 fn is_short(c: Chunk) -> bool
     ensures { result ≡ is_short c }
 {
-    (c.name == chunks::format()) & (c.size < FORMAT_BYTES)
-}
-
-// ---- what is kept of the chunks
-
-fn nothing() -> Found
-    ensures { result ≡ found_of [] }
-{
-    Found {
-        format: none(),
-        pcm: none(),
-        sampler: none(),
-    }
-}
-
-fn none() -> Kept
-    ensures { result ≡ kept_of [] }
-{
-    Kept {
-        times: 0,
-        first: Chunk {
-            name: 0,
-            place: 0,
-            size: 0,
-        },
-    }
-}
-
-// A chunk of another name is passed by first: then nothing of what is kept is moved.
-fn with_chunk(c: Chunk, f: Found) -> Found
-    ensures { result ≡ with_chunk c f }
-{
-    if is_other(c.name) {
-        return f;
-    }
-    let format = f.format;
-    let pcm = f.pcm;
-    let sampler = f.sampler;
-    Found {
-        format: keep(chunks::format(), c, format),
-        pcm: keep(chunks::data(), c, pcm),
-        sampler: keep(chunks::sampler(), c, sampler),
-    }
-}
-
-fn is_other(name: u32) -> bool
-    ensures { result ≡ is_other name }
-{
-    (name != chunks::format()) & ((name != chunks::data()) & (name != chunks::sampler()))
-}
-
-// What is kept of the chunks of a name, with one more chunk of any name.
-fn keep(name: u32, c: Chunk, k: Kept) -> Kept
-    ensures { result ≡ Parse-as-keep name c k }
-{
-    if c.name != name {
-        return k;
-    }
-    if k.times == 0 {
-        return Kept { times: 1, first: c };
-    }
-    let first = k.first;
-    Kept { times: 2, first }
-}
-
-/// Whether format and data are not there just once each.
-pub fn is_miscounted(f: Found) -> bool
-    ensures { result ≡ found_miscounted f }
-{
-    !((f.format.times == 1) & (f.pcm.times == 1))
+    c.name == chunks::FORMAT && c.size < FORMAT_BYTES
 }
 
 // ---- the format
 
+// `InFile` is a clause of the three that read a chunk: a type of a file and a chunk would owe the
+// same where it is made, in each call, as `Piece::of(file, c).is_mono16()`.
+
+#[tactic(auto, using(layout::proofs::Endian::little_2_at), unfolding(crate::specs::Wave::is_mono16))]
 pub fn is_mono16(file: &[u8], c: Chunk) -> bool
     requires in_file { InFile file.now c }
     requires le_size { Wave-as-FORMAT_BYTES ≤ c.size }
     ensures { result ≡ is_mono16 file.now c }
 {
     let place = c.place;
-    (layout::little2_at(file, place) == 1)
-        & ((layout::little2_at(file, place + 2) == 1)
-            & (layout::little2_at(file, place + 14) == 16))
+    u16::from_le_bytes(layout::array_at(file, place)) == 1
+        && u16::from_le_bytes(layout::array_at(file, place + 2)) == 1
+        && u16::from_le_bytes(layout::array_at(file, place + 14)) == 16
 }
 
 // ---- the sampler
 
-// The first sampler chunk, where there is one, has less than it must.
-fn first_sampler_short(file: &[u8], k: Kept) -> bool
-    requires { InFile file.now k.first }
-    ensures { result ≡ first_sampler_short_of file.now k }
-{
-    let first = k.first;
-    (k.times != 0) & is_sampler_short(file, first)
-}
-
+#[tactic(auto, using(layout::proofs::Endian::little_4_at), unfolding(crate::specs::Wave::is_sampler_short))]
 fn is_sampler_short(file: &[u8], c: Chunk) -> bool
     requires { InFile file.now c }
     ensures { result ≡ is_sampler_short file.now c }
@@ -197,35 +161,24 @@ fn is_sampler_short(file: &[u8], c: Chunk) -> bool
     if c.size < SAMPLER_BYTES {
         return true;
     }
-    let loops = layout::little4_at(file, c.place + LOOP_COUNT) as usize;
+    let loops = u32::from_le_bytes(layout::array_at(file, c.place + LOOP_COUNT)) as usize;
     c.size < SAMPLER_BYTES + LOOP_BYTES * loops
 }
 
-pub fn first_loop(file: &[u8], k: Kept) -> Loop
-    requires in_file { InFile file.now k.first }
+#[tactic(auto, using(layout::proofs::Endian::little_4_at), unfolding(crate::specs::Wave::is_sampler_short, crate::specs::Wave::loop_in))]
+pub fn first_loop(file: &[u8], k: Kept) -> Option<Loop>
+    requires in_file { FirstInFile file.now k }
     requires k_value { first_sampler_short_of file.now k ≡ false }
     ensures { result ≡ loop_of_kept file.now k }
 {
-    if k.times == 0 {
-        return Loop::Absent;
-    }
-    let first = k.first;
-    loop_in(file, first)
-}
-
-fn loop_in(file: &[u8], c: Chunk) -> Loop
-    requires in_file { InFile file.now c }
-    requires c_value { is_sampler_short file.now c ≡ false }
-    ensures { result ≡ loop_in file.now c }
-{
-    let place = c.place;
-    if layout::little4_at(file, place + LOOP_COUNT) == 0 {
-        return Loop::Absent;
+    let place = k.first()?.place;
+    if u32::from_le_bytes(layout::array_at(file, place + LOOP_COUNT)) == 0 {
+        return None;
     }
     let i = place + SAMPLER_BYTES;
-    Loop::Present {
-        form: layout::little4_at(file, i + 4),
-        start: layout::little4_at(file, i + 8),
-        last: layout::little4_at(file, i + 12),
-    }
+    Some(Loop {
+        form: u32::from_le_bytes(layout::array_at(file, i + 4)),
+        start: u32::from_le_bytes(layout::array_at(file, i + 8)),
+        last: u32::from_le_bytes(layout::array_at(file, i + 12)),
+    })
 }

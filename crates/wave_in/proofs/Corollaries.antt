@@ -10,6 +10,7 @@ use lib.Bits.{bit_and, and_high}
 use lib.ListN.{length, get_or}
 use lib.Pow.{pow_pos}
 use Rattle.answer.specs.Answer.{is_done}
+use Rattle.std.specs.Prelude.{Option, Some, None}
 use Rattle.numbers.proofs.Tests.{split}
 use Rattle.machine.specs.Words.{voice_word, voice_range, bits_of, cut, START, END}
 use Rattle.machine.proofs.Valid.{cut_voice}
@@ -20,10 +21,8 @@ use Rattle.chunks.specs.Chunks.{listing, is_unreadable, chunks_of, HEADER_BYTES,
 use Rattle.chunks.proofs.Row.{row_few}
 use Rattle.wave.specs.Wave.{data_of, samples_of, loop_of}
 use Rattle.wave_in.specs.Registers.{start_of}
-use Rattle.wave_in.specs.Import.{import_answer, refused_by, taken_at, imported, import_memory, Imports}
-use Rattle.wave_in.specs.declared.Imported.{Imported}
+use Rattle.wave_in.specs.Import.{import_answer, refused_by, taken_at, imported, import_memory, Imported, Imports}
 use Rattle.wave.specs.declared.Loop.{Loop}
-use Rattle.wave.specs.declared.Loop.TheVariants.{Absent, Present}
 use Rattle.wave_in.proofs.Copied.{samples_length}
 use Rattle.wave_in.proofs.Placed.{end_whole}
 use Rattle.wave.proofs.Parsing.{read_row}
@@ -100,10 +99,10 @@ high_kept : (j k m : ℕ) → m < 2 ^ j → bit_and (m * 2 ^ k) (2 ^ (j + k) - 2
 high_kept j k m h =
     and_high (m * 2 ^ k) j k ∙ ap (λ (x : ℕ). x % 2 ^ j * 2 ^ k) (mul-div_cancel m (pow_pos k)) ∙ ap (λ (x : ℕ). x * 2 ^ k) (mod-eq_of_lt h)
 
-start_whole : (word : ℕ) (l : Loop) → (k : ℕ) × (start_of word l ≡ k * WHOLE_SAMPLE)
+start_whole : (word : ℕ) (l : Option Loop) → (k : ℕ) × (start_of word l ≡ k * WHOLE_SAMPLE)
 unfolding start_of
-start_whole word Absent = (0, refl)
-start_whole word (Present type start last) = (word % BANK_WORDS + start, refl)
+start_whole word None = (0, refl)
+start_whole word (Some l) = (word % BANK_WORDS + l.start, refl)
 
 module _ (v : ℕ) (h : v < 32) where
   start_cut : (k : ℕ) → k * WHOLE_SAMPLE < voice_range END → cut (voice_word v START) (k * WHOLE_SAMPLE) ≡ k * WHOLE_SAMPLE

@@ -1,16 +1,18 @@
 -- An import that is done, and one that is refused.
 -- In order: what `wave_in::settle` told; what holds where an import is done: none of the refusals, so the samples have their place and START and END fit
 -- their registers; the promise of each. Assumes nothing.
-use mathlib.Core.Path.{◌≡◌, refl, ◌∙◌}
-use mathlib.Core.Bool.{Bool, true, false, cond, not, ◌||◌}
+use mathlib.Core.Path.{◌≡◌, refl, ap, ◌∙◌}
+use mathlib.Core.Bool.{true, false, not, ◌||◌}
 use mathlib.Core.List.{List}
 use Prim.Native.Nat.{ℕ, ◌+◌, ◌*◌, ◌/◌, ◌%◌, ◌≤◌, ◌<◌}
 use native.Mathlib.Omega.{arith}
 use borrow.Author.Tests.{ltb-false, leb-false, eqb-false}
 use lib.Dec.{leb, ltb, eqb}
 use lib.ListN.{length}
+use Rattle.std.specs.Prelude.{Option, Some, None, Result, Ok, Err}
 use Rattle.numbers.proofs.Tests.{neither}
 use Rattle.answer.specs.Answer.{Answer, is_done}
+use Rattle.answer.specs.declared.Refusal.{Refusal}
 use Rattle.answer.proofs.Refusals.{none_holds}
 use Rattle.machine.specs.Words.{voice_range, END}
 use Rattle.layout.specs.Parts.{with_part}
@@ -19,36 +21,29 @@ use Rattle.chunks.specs.Chunks.{chunks_of, DATA}
 use Rattle.chunks.specs.declared.Chunk.{Chunk}
 use Rattle.wave.specs.Wave.{format_of, data_of, count_of, samples_of, is_mono16, loop_of, is_broken}
 use Rattle.wave_in.specs.Registers.{start_of, end_of}
-use Rattle.wave_in.specs.Import.{is_miscounted, is_other_format, is_loop_invalid, has_no_place, import_tests, import_answer, refused_by, taken_at, imported, import_memory, Imports}
-use Rattle.wave_in.specs.Steps.{settled_of, Placeable}
+use Rattle.wave_in.specs.Import.{is_miscounted, is_other_format, is_loop_invalid, has_no_place, import_tests, import_answer, taken_at, imported, import_memory, outcome_of, Imported, Imports}
+use Rattle.wave_in.specs.Steps.{given, settled_of, Placeable}
 use Rattle.wave.specs.Parse.{InFile}
-use Rattle.wave_in.specs.declared.Imported.{Imported}
 use Rattle.wave.specs.declared.Loop.{Loop}
-use Rattle.wave.specs.declared.Loop.TheVariants.{Absent, Present}
-use Rattle.wave_in.specs.declared.Settled.{Settled}
-use Rattle.wave_in.specs.declared.Settled.TheVariants.{Refused, Taken}
+use Rattle.wave_in.specs.declared.Taken.{Taken}
 use Rattle.wave.proofs.NotBroken.{not_broken, named_in}
 
 -- ---- what was settled
 
-refused_by_lem : (t : Bool) (c : Chunk) (l : Loop) (b : Answer) (r : Settled) (a : Answer) → r ≡ Refused a → r ≡ cond t (Taken c l) (Refused b) → (t ≡ false) × (a ≡ b)
-refused_by_lem true c l b r a e f = absurd (let z : ◌≡◌ {A = ℕ} 0 1 = cc in omega arith)
-refused_by_lem false c l b r a e f = (refl, cc)
+abbrev Settled : Type 0
+Settled = Result (Chunk × Option Loop) Refusal
 
-taken_by : (t : Bool) (c : Chunk) (l : Loop) (b : Answer) (r : Settled) (d : Chunk) (k : Loop) → r ≡ Taken d k → r ≡ cond t (Taken c l) (Refused b) → (t ≡ true) × (d ≡ c) × (k ≡ l)
-taken_by true c l b r d k e f = (refl, cc, cc)
-taken_by false c l b r d k e f = absurd (let z : ◌≡◌ {A = ℕ} 0 1 = cc in omega arith)
+refused_by_lem : (a : Answer) (x : Chunk × Option Loop) (r : Settled) (e : Refusal) → r ≡ Err e → r ≡ given a x → a ≡ Err e
+refused_by_lem (Ok _) x r e p q = absurd (let z : ◌≡◌ {A = ℕ} 0 1 = cc in omega arith)
+refused_by_lem (Err d) x r e p q = cc
 
-module _ (file : List ℕ) (room word : ℕ) (r : Settled) (settled : r ≡ settled_of file room word) where
-  pub was_refused : (a : Answer) → r ≡ Refused a → (is_done (import_answer file room word) ≡ false) × (a ≡ import_answer file room word)
-  unfolding settled_of
-  was_refused a e =
-      refused_by_lem (is_done (import_answer file room word)) (data_of (chunks_of file)) (loop_of file (chunks_of file)) (import_answer file room word) r a e settled
+taken_by : (a : Answer) (x : Chunk × Option Loop) (r : Settled) (y : Chunk × Option Loop) → r ≡ Ok y → r ≡ given a x → (is_done a ≡ true) × (y ≡ x)
+taken_by (Ok _) x r y p q = (refl, cc)
+taken_by (Err d) x r y p q = absurd (let z : ◌≡◌ {A = ℕ} 0 1 = cc in omega arith)
 
-  pub was_taken : (c : Chunk) (l : Loop) → r ≡ Taken c l → (is_done (import_answer file room word) ≡ true) × (c ≡ data_of (chunks_of file)) × (l ≡ loop_of file (chunks_of file))
-  unfolding settled_of
-  was_taken c l e =
-      taken_by (is_done (import_answer file room word)) (data_of (chunks_of file)) (loop_of file (chunks_of file)) (import_answer file room word) r c l e settled
+pub was_refused : (file : List ℕ) (room word : ℕ) (r : Settled) → r ≡ settled_of file room word → (e : Refusal) → r ≡ Err e → import_answer file room word ≡ Err e
+unfolding settled_of
+was_refused file room word r settled e p = refused_by_lem (import_answer file room word) (data_of (chunks_of file), loop_of file (chunks_of file)) r e p settled
 
 -- ---- an import that is done
 
@@ -68,8 +63,26 @@ module _ (file : List ℕ) (room word : ℕ) where
   pub importable : is_done (import_answer file room word) ≡ true → Importable
   unfolding import_answer
   importable h =
-      let n = none_holds (import_tests file room word) (refl, (refl, (refl, (refl, (refl, (refl, tt)))))) h in
+      let n = none_holds (import_tests file room word) h in
       record { small = n.0; unbroken = n.1.0; counted = n.1.1.0; format = n.1.1.1.0; loop = n.1.1.1.1.0; place = n.1.1.1.1.1.0 }
+
+-- what is known where the samples are taken
+pub record Takes (file : List ℕ) (room word : ℕ) (c : Chunk) (l : Option Loop) : Type 0 where
+  pub done : is_done (import_answer file room word) ≡ true
+  pub importing : Importable file room word
+  pub data_is : c ≡ data_of (chunks_of file)
+  pub loop_is : l ≡ loop_of file (chunks_of file)
+
+pub was_taken : {file : List ℕ} {room word : ℕ} {r : Settled} {c : Chunk} {l : Option Loop} → r ≡ settled_of file room word → r ≡ Ok (c, l) → Takes file room word c l
+unfolding settled_of
+was_taken {file} {room} {word} {r} {c} {l} settled p =
+    let t = taken_by (import_answer file room word) (data_of (chunks_of file), loop_of file (chunks_of file)) r (c, l) p settled in
+    record {
+      done = t.0;
+      importing = importable file room word t.0;
+      data_is = ap (λ (x : Chunk × Option Loop). x.0) t.1;
+      loop_is = ap (λ (x : Chunk × Option Loop). x.1) t.1;
+    }
 
 even : (n : ℕ) → (n % 2 ≡ 1 → ⊥) → n ≡ 2 * (n / 2)
 even n h = omega arith
@@ -110,12 +123,12 @@ module _ {file : List ℕ} {room word : ℕ} (p : Importable file room word) whe
       omega arith
 
 -- a loop that is valid starts before it ends
-start_before : (count word : ℕ) (l : Loop) → is_loop_invalid count l ≡ false → start_of word l ≤ end_of word l
+start_before : (count word : ℕ) (l : Option Loop) → is_loop_invalid count l ≡ false → start_of word l ≤ end_of word l
 unfolding is_loop_invalid start_of end_of
-start_before count word Absent h = omega arith
-start_before count word (Present type start last) h =
-    let n = neither (leb count last) (ltb last start || ltb 2 type) h in
-    let s = ltb-false last start (neither (ltb last start) (ltb 2 type) n.1).0 in
+start_before count word None h = omega arith
+start_before count word (Some l) h =
+    let n = neither (leb count l.last) (ltb l.last l.start || ltb 2 l.form) h in
+    let s = ltb-false l.last l.start (neither (ltb l.last l.start) (ltb 2 l.form) n.1).0 in
     omega arith
 
 pub start_fits : {file : List ℕ} {room word : ℕ} → Importable file room word → start_of word (loop_of file (chunks_of file)) ≤ end_of word (loop_of file (chunks_of file))
@@ -124,10 +137,9 @@ start_fits {file} {room} {word} p = start_before (count_of (data_of (chunks_of f
 -- ---- the promise
 
 module _ (file memory : List ℕ) (word : ℕ) where
-  pub refused_imports : (a : Answer) (r : Imported) → is_done (import_answer file (length memory) word) ≡ false → a ≡ import_answer file (length memory) word → r ≡ refused_by a
-      → Imports file memory word r memory
+  pub refused_imports : (e : Refusal) (r : Result Taken Refusal) → r ≡ Err e → import_answer file (length memory) word ≡ Err e → Imports file memory word (outcome_of r) memory
   unfolding imported import_memory
-  refused_imports a r d e f = record { answers = f ∙ rw (d, e); leaves = rw d }
+  refused_imports e r s d = record { answers = rw (s, d); leaves = rw d }
 
   pub done_imports : (r : Imported) (after : List ℕ) → is_done (import_answer file (length memory) word) ≡ true → r ≡ taken_at word (data_of (chunks_of file)) (loop_of file (chunks_of file))
       → after ≡ with_part memory word (samples_of file (data_of (chunks_of file))) → Imports file memory word r after

@@ -1,120 +1,167 @@
 -- What `wave_in::settle` answers at each test, in their order: first until format and data are there, each once, and then with what is known of them.
 -- Assumes nothing.
-use mathlib.Core.Path.{◌≡◌, sym, ap, ◌∙◌}
-use mathlib.Core.Bool.{Bool, true, false, not, ◌&&◌, ◌||◌, and-eq-true_iff}
+use mathlib.Core.Path.{◌≡◌, refl, sym, ap, ◌∙◌}
+use mathlib.Core.Bool.{Bool, true, false, cond, not, ◌&&◌, ◌||◌, or-true, and-eq-true_iff}
+use mathlib.Core.Logic.{◌⊎◌, inl, inr}
 use mathlib.Core.List.{List, [], ◌∷◌}
 use Prim.Native.Nat.{ℕ, ◌/◌, ◌%◌, ◌≤◌, ◌<◌}
 use native.Mathlib.Omega.{arith}
-use borrow.Author.Tests.{lt-ltb, le-ltb, not-false}
+use borrow.Author.Tests.{lt-ltb, le-ltb, not-false, ne_eqb}
 use lib.Dec.{eqb}
+use Rattle.std.specs.Prelude.{Option, Some, None, ok_or, Result, Ok, Err}
 use Rattle.answer.specs.Answer.{first_refusal}
+use Rattle.answer.specs.declared.Refusal.{Refusal}
 use Rattle.answer.specs.declared.Refusal.TheVariants.{MemoryLength, FileBroken, ChunkCount, SampleFormat, LoopInvalid, NoPlace}
 use Rattle.sample.specs.Sample.{MOST_MEMORY_WORDS}
 use Rattle.chunks.specs.Chunks.{chunks_of, named, FORMAT, DATA, SAMPLER}
 use Rattle.chunks.specs.declared.Chunk.{Chunk}
-use Rattle.wave.specs.Wave.{is_once, is_mono16, loop_of, FORMAT_BYTES, is_broken}
+use Rattle.wave.specs.Wave.{is_once, is_mono16, format_of, data_of, loop_of, FORMAT_BYTES, is_broken}
 use Rattle.wave_in.specs.Import.{is_miscounted, is_other_format, is_loop_invalid, has_no_place, import_answer}
-use Rattle.wave.specs.Parse.{found_of, found_miscounted, first_sampler_short_of, loop_of_kept, InFile}
+use Rattle.wave.specs.Parse.{found_of, once_both, first_sampler_short_of, loop_of_kept, parsed_of, InFile, FirstInFile}
 use Rattle.wave_in.specs.Steps.{settled_of}
 use Rattle.wave.specs.declared.Loop.{Loop}
 use Rattle.wave.specs.declared.Found.{Found}
-use Rattle.wave_in.specs.declared.Settled.{Settled}
-use Rattle.wave_in.specs.declared.Settled.TheVariants.{Refused, Taken}
-use Rattle.wave.proofs.Keeping.{kept_once, kept_loop}
-use Rattle.wave.proofs.NotBroken.{not_broken, named_in, format_full, sampler_full}
+use Rattle.wave.proofs.Keeping.{kept_both, kept_loop}
+use Rattle.wave.proofs.Parsing.{was_broken, was_found}
+use Rattle.wave.proofs.NotBroken.{not_broken, named_in, sampler_in_file, format_full, sampler_full}
 
--- ---- the answers
+-- ---- what `ok_or` made of an option
 
-module _ (file : List ℕ) (room word : ℕ) where
-  abbrev Answers : Settled → Type 0
-  Answers r = r ≡ settled_of file room word
+pub none_was : {T E : Type 0} (p : Option T) (e x : E) (r : Result T E) → r ≡ ok_or p e → r ≡ Err x → (p ≡ None) × (x ≡ e)
+none_was None e x r f g = (refl, cc)
+none_was (Some y) e x r f g = absurd (let z : ◌≡◌ {A = ℕ} 0 1 = cc in omega arith)
 
-  pub too_much : MOST_MEMORY_WORDS < room → Answers (Refused MemoryLength)
-  unfolding settled_of import_answer
-  too_much h = rw (lt-ltb MOST_MEMORY_WORDS room h)
+pub some_was : {T E : Type 0} (p : Option T) (e : E) (y : T) (r : Result T E) → r ≡ ok_or p e → r ≡ Ok y → p ≡ Some y
+some_was None e y r f g = absurd (let z : ◌≡◌ {A = ℕ} 0 1 = cc in omega arith)
+some_was (Some x) e y r f g = let z : y ≡ x = cc in rw z
 
-  module _ (small : room ≤ MOST_MEMORY_WORDS) where
-    pub broken : is_broken file ≡ true → Answers (Refused FileBroken)
-    unfolding settled_of import_answer
-    broken b = rw (le-ltb MOST_MEMORY_WORDS room small, b)
-
-    module _ (b : is_broken file ≡ false) where
-      pub miscounted_so : is_miscounted (chunks_of file) ≡ true → Answers (Refused ChunkCount)
-      unfolding settled_of import_answer
-      miscounted_so m = rw (le-ltb MOST_MEMORY_WORDS room small, b, m)
+abbrev Settles : List ℕ → ℕ → ℕ → Result (Chunk × Option Loop) Refusal → Type 0
+Settles file room word r = r ≡ settled_of file room word
 
 -- ---- how often format and data are there
 
-same_count : (cs : List Chunk) → found_miscounted (found_of cs) ≡ is_miscounted cs
-unfolding is_miscounted
-same_count cs = rw (kept_once (named FORMAT cs), kept_once (named DATA cs))
+module _ (cs : List Chunk) where
+  abbrev Both : Type 0
+  Both = Option (Chunk × Chunk)
 
-once_both : (cs : List Chunk) → is_miscounted cs ≡ false → (is_once (named FORMAT cs) ≡ true) × (is_once (named DATA cs) ≡ true)
-unfolding is_miscounted
-once_both cs h = (and-eq-true_iff (is_once (named FORMAT cs)) (is_once (named DATA cs))).0 (not-false (is_once (named FORMAT cs) && is_once (named DATA cs)) h)
+  none_by : (t : Bool) → cond {A = Both} t (Some (format_of cs, data_of cs)) None ≡ None → not t ≡ true
+  none_by true e = absurd (let z : ◌≡◌ {A = ℕ} 0 1 = cc in omega arith)
+  none_by false e = refl
 
-pub count_is : (file : List ℕ) (f : Found) (t : Bool) → f ≡ found_of (chunks_of file) → t ≡ found_miscounted f → is_miscounted (chunks_of file) ≡ t
-count_is file f t e m = sym (m ∙ ap found_miscounted e ∙ same_count (chunks_of file))
+  both_by : (t : Bool) (x : Chunk × Chunk) → cond {A = Both} t (Some (format_of cs, data_of cs)) None ≡ Some x → (not t ≡ false) × (x ≡ (format_of cs, data_of cs))
+  both_by true x e = (refl, cc)
+  both_by false x e = absurd (let z : ◌≡◌ {A = ℕ} 0 1 = cc in omega arith)
+
+  pub none_both : once_both (found_of cs) ≡ None → is_miscounted cs ≡ true
+  unfolding is_miscounted
+  none_both e = none_by (is_once (named FORMAT cs) && is_once (named DATA cs)) (sym (kept_both (named FORMAT cs) (named DATA cs)) ∙ e)
+
+  pub both_there : (x : Chunk × Chunk) → once_both (found_of cs) ≡ Some x → (is_miscounted cs ≡ false) × (x ≡ (format_of cs, data_of cs))
+  unfolding is_miscounted
+  both_there x e = both_by (is_once (named FORMAT cs) && is_once (named DATA cs)) x (sym (kept_both (named FORMAT cs) (named DATA cs)) ∙ e)
+
+  once_format : is_miscounted cs ≡ false → is_once (named FORMAT cs) ≡ true
+  unfolding is_miscounted
+  once_format h = ((and-eq-true_iff (is_once (named FORMAT cs)) (is_once (named DATA cs))).0 (not-false (is_once (named FORMAT cs) && is_once (named DATA cs)) h)).0
+
+-- ---- the answers before
+
+module _ (file : List ℕ) (room word : ℕ) where
+  pub too_much : MOST_MEMORY_WORDS < room → Settles file room word (Err MemoryLength)
+  unfolding settled_of import_answer
+  too_much h = rw (lt-ltb MOST_MEMORY_WORDS room h)
+
+  module _ (small : room ≤ MOST_MEMORY_WORDS) (p : Option Found) (parsed : p ≡ parsed_of file) where
+    pub broken : p ≡ None → Settles file room word (Err FileBroken)
+    unfolding settled_of import_answer
+    broken e = rw (le-ltb MOST_MEMORY_WORDS room small, was_broken file p parsed e)
+
+    pub miscounted_so : (found : Found) → p ≡ Some found → once_both found ≡ None → Settles file room word (Err ChunkCount)
+    unfolding settled_of import_answer
+    miscounted_so found e m =
+        let w = was_found file p parsed found e in
+        rw (le-ltb MOST_MEMORY_WORDS room small, w.0, none_both (chunks_of file) (rw w.1 at m))
 
 -- ---- the answers once format and data are there, each once
 
-pub record Ready (file : List ℕ) (room : ℕ) (found : Found) : Type 0 where
+pub record Ready (file : List ℕ) (room : ℕ) (found : Found) (format pcm : Chunk) : Type 0 where
   pub small : room ≤ MOST_MEMORY_WORDS
   pub unbroken : is_broken file ≡ false
   pub found_is : found ≡ found_of (chunks_of file)
   pub counted : is_miscounted (chunks_of file) ≡ false
+  pub format_is : format ≡ format_of (chunks_of file)
+  pub pcm_is : pcm ≡ data_of (chunks_of file)
 
-module _ {file : List ℕ} {room : ℕ} {found : Found} (g : Ready file room found) where
+pub ready : (room : ℕ) {file : List ℕ} {p : Option Found} {r : Result Found Refusal} {found : Found} {q : Option (Chunk × Chunk)}
+    {s : Result (Chunk × Chunk) Refusal} {format pcm : Chunk} → p ≡ parsed_of file → room ≤ MOST_MEMORY_WORDS → r ≡ ok_or p FileBroken → r ≡ Ok found
+    → q ≡ once_both found → s ≡ ok_or q ChunkCount → s ≡ Ok (format, pcm) → Ready file room found format pcm
+ready room {file} {p} {r} {found} {q} {s} {format} {pcm} parsed small r-is r-was q-is s-is s-was =
+    let w = was_found file p parsed found (some_was p FileBroken found r r-is r-was) in
+    let b : once_both (found_of (chunks_of file)) ≡ Some (format, pcm) = rw w.1 at (sym q-is ∙ some_was q ChunkCount (format, pcm) s s-is s-was) in
+    let t = both_there (chunks_of file) (format, pcm) b in
+    record {
+      small = small;
+      unbroken = w.0;
+      found_is = w.1;
+      counted = t.0;
+      format_is = ap (λ (x : Chunk × Chunk). x.0) t.1;
+      pcm_is = ap (λ (x : Chunk × Chunk). x.1) t.1;
+    }
+
+module _ {file : List ℕ} {room : ℕ} {found : Found} {format pcm : Chunk} (g : Ready file room found format pcm) where
   -- what is asked before the chunks are read
-  pub format_ready : InFile file found.format.first × (FORMAT_BYTES ≤ found.format.first.size)
-  format_ready =
-      let s = not_broken file g.unbroken in
-      rw g.found_is (named_in file s FORMAT, format_full file s (once_both (chunks_of file) g.counted).0)
+  pub format_in : InFile file format
+  format_in = rw g.format_is (named_in file (not_broken file g.unbroken) FORMAT)
 
-  pub sampler_ready : InFile file found.sampler.first × (first_sampler_short_of file found.sampler ≡ false)
-  sampler_ready =
-      let s = not_broken file g.unbroken in
-      rw g.found_is (named_in file s SAMPLER, sampler_full file s)
+  pub format_long : FORMAT_BYTES ≤ format.size
+  format_long = rw g.format_is (format_full file (not_broken file g.unbroken) (once_format (chunks_of file) g.counted))
 
-  pub data_small : found.pcm.first.size / 2 ≤ 65536
+  pub sampler_in : FirstInFile file found.sampler
+  sampler_in = rw g.found_is (sampler_in_file file (not_broken file g.unbroken))
+
+  pub sampler_long : first_sampler_short_of file found.sampler ≡ false
+  sampler_long = rw g.found_is (sampler_full file (not_broken file g.unbroken))
+
+  pub data_small : pcm.size / 2 ≤ 65536
   data_small =
       let s = not_broken file g.unbroken in
-      let i : InFile file found.pcm.first = rw g.found_is (named_in file s DATA) in
+      let i : InFile file pcm = rw g.pcm_is (named_in file s DATA) in
       let f = s.row.few in
       omega arith
 
-  module _ (word : ℕ) (mono : Bool) (is-mono : mono ≡ is_mono16 file found.format.first) where
-    same_format : (not mono || eqb (found.pcm.first.size % 2) 1) ≡ is_other_format file (chunks_of file)
-    unfolding is_other_format
-    same_format = rw (is-mono, g.found_is)
-
+  module _ (word : ℕ) where
     -- the tests so far: the lent memory, the file, the two chunks
-    so_far : (t : Bool) → (not mono || eqb (found.pcm.first.size % 2) 1) ≡ t → import_answer file room word
+    so_far : (t : Bool) → (not (is_mono16 file format) || eqb (pcm.size % 2) 1) ≡ t → import_answer file room word
         ≡ first_refusal
         ((t, SampleFormat)
-        ∷ (is_loop_invalid (found.pcm.first.size / 2) (loop_of file (chunks_of file)), LoopInvalid)
-        ∷ (has_no_place room word (found.pcm.first.size / 2) (loop_of file (chunks_of file)), NoPlace)
+        ∷ (is_loop_invalid (pcm.size / 2) (loop_of file (chunks_of file)), LoopInvalid)
+        ∷ (has_no_place room word (pcm.size / 2) (loop_of file (chunks_of file)), NoPlace)
         ∷ [])
-    unfolding import_answer
-    so_far t e = rw (le-ltb MOST_MEMORY_WORDS room g.small, g.unbroken, g.counted, ← same_format, e, g.found_is)
+    unfolding import_answer is_other_format
+    so_far t e = rw (le-ltb MOST_MEMORY_WORDS room g.small, g.unbroken, g.counted, ← e, g.format_is, g.pcm_is)
 
-    pub other_format : (not mono || eqb (found.pcm.first.size % 2) 1) ≡ true → Refused SampleFormat ≡ settled_of file room word
-    unfolding settled_of
-    other_format o = rw (so_far true o)
+    module _ (mono : Bool) (is-mono : mono ≡ is_mono16 file format) where
+      pub other_format : (mono ≡ false) ⊎ ((mono ≡ true) × (pcm.size % 2 ≡ 1)) → Settles file room word (Err SampleFormat)
+      unfolding settled_of
+      other_format (inl h) = rw (so_far true (rw (← is-mono, h)))
+      other_format (inr h) = rw (so_far true (rw (h.1, or-true (not (is_mono16 file format)))))
 
-    module _ (o : (not mono || eqb (found.pcm.first.size % 2) 1) ≡ false) (l : Loop) (first : l ≡ loop_of_kept file found.sampler) where
+      pub its_format : mono ≡ true → (pcm.size % 2 ≡ 1 → ⊥) → (not (is_mono16 file format) || eqb (pcm.size % 2) 1) ≡ false
+      its_format h odd = rw (← is-mono, h, ne_eqb (pcm.size % 2) 1 odd)
+
+    module _ (o : (not (is_mono16 file format) || eqb (pcm.size % 2) 1) ≡ false) (l : Option Loop) (first : l ≡ loop_of_kept file found.sampler) where
       its_loop : loop_of file (chunks_of file) ≡ l
       its_loop = sym (first ∙ rw g.found_is (kept_loop file (named SAMPLER (chunks_of file))))
 
-      pub loop_invalid : is_loop_invalid (found.pcm.first.size / 2) l ≡ true → Refused LoopInvalid ≡ settled_of file room word
+      pub loop_invalid : is_loop_invalid (pcm.size / 2) l ≡ true → Settles file room word (Err LoopInvalid)
       unfolding settled_of
       loop_invalid i = rw (so_far false o, its_loop, i)
 
-      module _ (i : is_loop_invalid (found.pcm.first.size / 2) l ≡ false) where
-        pub no_place : has_no_place room word (found.pcm.first.size / 2) l ≡ true → Refused NoPlace ≡ settled_of file room word
+      module _ (i : is_loop_invalid (pcm.size / 2) l ≡ false) where
+        pub no_place : has_no_place room word (pcm.size / 2) l ≡ true → Settles file room word (Err NoPlace)
         unfolding settled_of
         no_place p = rw (so_far false o, its_loop, i, p)
 
-        pub fine : has_no_place room word (found.pcm.first.size / 2) l ≡ false → Taken found.pcm.first l ≡ settled_of file room word
+        pub fine : has_no_place room word (pcm.size / 2) l ≡ false → Settles file room word (Ok (pcm, l))
         unfolding settled_of
-        fine p = rw (so_far false o, its_loop, i, p, g.found_is)
+        fine p = rw (so_far false o, its_loop, i, p, g.pcm_is)

@@ -1,6 +1,6 @@
 -- What importing a WAVE file promises.
 -- In order: the refusals, each by itself, and their order; what the call answers; the memory afterwards; the promise. Assumes nothing.
-use Rattle.std.specs.Prelude.{◌≡◌, ℕ, ◌+◌, ◌%◌, Bool, false, cond, not, ◌&&◌, ◌||◌, List, [], ◌∷◌, leb, ltb, eqb, length}
+use Rattle.std.specs.Prelude.{◌≡◌, ℕ, ◌+◌, ◌%◌, Bool, false, cond, not, ◌&&◌, ◌||◌, List, [], ◌∷◌, leb, ltb, eqb, length, Option, Some, None, Result, Ok, Err}
 use Rattle.answer.specs.Answer.{Answer, Done, first_refusal, is_done}
 use Rattle.answer.specs.declared.Refusal.{Refusal}
 use Rattle.answer.specs.declared.Refusal.TheVariants.{MemoryLength, FileBroken, ChunkCount, SampleFormat, LoopInvalid, NoPlace}
@@ -11,9 +11,8 @@ use Rattle.chunks.specs.Chunks.{chunks_of, named, FORMAT, DATA}
 use Rattle.chunks.specs.declared.Chunk.{Chunk}
 use Rattle.wave.specs.Wave.{is_once, format_of, is_mono16, data_of, count_of, samples_of, loop_of, is_broken}
 use Rattle.wave.specs.declared.Loop.{Loop}
-use Rattle.wave.specs.declared.Loop.TheVariants.{Absent, Present}
 use Rattle.wave_in.specs.Registers.{start_of, end_of, loop_bits}
-use Rattle.wave_in.specs.declared.Imported.{Imported}
+use Rattle.wave_in.specs.declared.Taken.{Taken}
 
 -- ---- refusals; room is how many words are lent, and word the one that the caller names
 
@@ -28,13 +27,13 @@ unfoldable pub is_other_format : List ℕ → List Chunk → Bool
 is_other_format file cs = not (is_mono16 file (format_of cs)) || eqb ((data_of cs).size % 2) 1
 
 -- 23: a loop with a point past the last sample, with its last before its start, or of a type that is none of the three
-unfoldable pub is_loop_invalid : ℕ → Loop → Bool
-is_loop_invalid count Absent = false
-is_loop_invalid count (Present type start last) = leb count last || (ltb last start || ltb 2 type)
+unfoldable pub is_loop_invalid : ℕ → Option Loop → Bool
+is_loop_invalid count None = false
+is_loop_invalid count (Some l) = leb count l.last || (ltb l.last l.start || ltb 2 l.form)
 
 -- 24: the lent memory or the bank ends before the samples do, or END is greater than its register's greatest value. (It is a number of whole
 -- samples, so that is where it has more than 32 bits.)
-unfoldable pub has_no_place : ℕ → ℕ → ℕ → Loop → Bool
+unfoldable pub has_no_place : ℕ → ℕ → ℕ → Option Loop → Bool
 has_no_place room word count l = ltb room (word + count) || (ltb BANK_WORDS (word % BANK_WORDS + count) || leb (voice_range END) (end_of word l))
 
 -- all of them, in their order
@@ -53,12 +52,24 @@ import_tests file room word =
 unfoldable pub import_answer : List ℕ → ℕ → ℕ → Answer
 import_answer file room word = first_refusal (import_tests file room word)
 
--- ---- what is answered
+-- ---- what is answered: in a refusal all but the answer is 0, and without a loop START, END and the bits are
+
+pub record Imported : Type 0 where
+  pub answer : Answer
+  pub start : ℕ
+  pub end : ℕ
+  pub bits : ℕ
+  pub samples : ℕ
+
+-- what the call gives, or why it is refused
+abbrev pub outcome_of : Result Taken Refusal → Imported
+outcome_of (Ok i) = record { answer = Done; start = i.start; end = i.end; bits = i.bits; samples = i.samples }
+outcome_of (Err e) = record { answer = Err e; start = 0; end = 0; bits = 0; samples = 0 }
 
 abbrev pub refused_by : Answer → Imported
 refused_by a = record { answer = a; start = 0; end = 0; bits = 0; samples = 0 }
 
-abbrev pub taken_at : ℕ → Chunk → Loop → Imported
+abbrev pub taken_at : ℕ → Chunk → Option Loop → Imported
 taken_at word pcm l = record { answer = Done; start = start_of word l; end = end_of word l; bits = loop_bits l; samples = count_of pcm }
 
 unfoldable pub imported : List ℕ → ℕ → ℕ → Imported

@@ -1,23 +1,22 @@
 -- A loop as the registers of a voice, where the first sample of its file is put into a word of sample memory.
 -- In order: a sample's place; START; END; the loop bits. Assumes nothing.
-use Rattle.std.specs.Prelude.{ℕ, ◌+◌, ◌*◌, ◌%◌, cond, eqb}
+use Rattle.std.specs.Prelude.{ℕ, ◌+◌, ◌*◌, ◌%◌, cond, eqb, Option, Some, None}
 use Rattle.control.specs.Control.{with_bit, LPE, BLE, DIR}
 use Rattle.sample.specs.Sample.{BANK_WORDS, WHOLE_SAMPLE}
 use Rattle.wave.specs.declared.Loop.{Loop}
-use Rattle.wave.specs.declared.Loop.TheVariants.{Absent, Present}
 
 -- a sample's place in the bank of the word, as START and END have it
 abbrev pub register_at : ℕ → ℕ → ℕ
 register_at word sample = (word % BANK_WORDS + sample) * WHOLE_SAMPLE
 
-unfoldable pub start_of : ℕ → Loop → ℕ
-start_of word Absent = 0
-start_of word (Present type start last) = register_at word start
+unfoldable pub start_of : ℕ → Option Loop → ℕ
+start_of word None = 0
+start_of word (Some l) = register_at word l.start
 
 -- where the sample after the last one of the loop begins
-unfoldable pub end_of : ℕ → Loop → ℕ
-end_of word Absent = 0
-end_of word (Present type start last) = register_at word (last + 1)
+unfoldable pub end_of : ℕ → Option Loop → ℕ
+end_of word None = 0
+end_of word (Some l) = register_at word (l.last + 1)
 
 -- the loop bits at their places in CR, by the loop's type
 --   0  one-directional                 LPE
@@ -26,6 +25,6 @@ end_of word (Present type start last) = register_at word (last + 1)
 abbrev pub type_bits : ℕ → ℕ
 type_bits type = let one = with_bit LPE 1 0 in cond (eqb type 1) (with_bit BLE 1 one) (cond (eqb type 2) (with_bit DIR 1 one) one)
 
-unfoldable pub loop_bits : Loop → ℕ
-loop_bits Absent = 0
-loop_bits (Present type start last) = type_bits type
+unfoldable pub loop_bits : Option Loop → ℕ
+loop_bits None = 0
+loop_bits (Some l) = type_bits l.form

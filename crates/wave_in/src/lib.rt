@@ -8,28 +8,26 @@
 //! the file's chunks. There is no other loop.
 #![tactic(auto)]
 
-ghost use Rattle.std.specs.Prelude.{◌≡◌, ◌*◌, ◌^◌, ◌≤◌, ◌<◌, length};
+ghost use Rattle.std.specs.Prelude.{◌≡◌, ◌*◌, ◌^◌, ◌≤◌, length};
 ghost use Rattle.layout.specs.Parts.{with_part};
 ghost use Rattle.layout.specs.Bytes.{little, twos};
 ghost use Rattle.chunks.specs.Chunks.{MOST_FILE_BYTES};
 ghost use Rattle.wave.specs.Wave.{samples_of};
 ghost use Rattle.wave_in.specs.Registers.{register_at, start_of, end_of, type_bits, loop_bits};
-ghost use Rattle.wave_in.specs.Import.{is_loop_invalid, has_no_place, refused_by, taken_at, Imports};
+ghost use Rattle.wave_in.specs.Import.{is_loop_invalid, has_no_place, outcome_of, Imports};
 ghost use Rattle.wave_in.specs.Steps.{settled_of, Placeable};
 
-use answer::Answer;
+use answer::Refusal;
 use chunks::Chunk;
-use wave::{Loop, Parsed};
+use wave::Loop;
 
 // The greatest number of 32 bits. END is a number of whole samples, so it fits its register exactly
 // where it is not greater.
 const GREATEST_REGISTER: usize = 4294967295;
 
-/// What an import answers. In a refusal all but the answer is 0; without a loop START, END and the
-/// bits are.
-#[derive(Clone, Copy, Debug, PartialEq, Eq)]
-pub struct Imported {
-    pub answer: Answer,
+/// What an import gives. Without a loop START, END and the bits are 0.
+#[derive(Clone, Copy, Debug, Default, PartialEq, Eq)]
+pub struct Taken {
     /// START and END, within the bank.
     pub start: u32,
     pub end: u32,
@@ -39,107 +37,60 @@ pub struct Imported {
     pub samples: u32,
 }
 
-/// What an import comes to: why it is refused, or the samples' chunk and the loop.
-#[derive(Clone, Copy, Debug, PartialEq, Eq)]
-pub enum Settled {
-    Refused(Answer),
-    Taken { pcm: Chunk, looped: Loop },
-}
-
-pub fn import(file: &[u8], memory: &mut [u16], word: usize) -> Imported
-    ensures { Imports file.now memory.old word result memory.new }
+/// Writes a file's samples into the memory, from a word on, and gives its loop as registers. A
+/// refusal writes nothing.
+pub fn import(file: &[u8], memory: &mut [u16], word: usize) -> Result<Taken, Refusal>
+    ensures { Imports file.now memory.old word (outcome_of result) memory.new }
 {
-    match settle(file, memory.len(), word) {
-        Settled::Refused(a) => refused(a),
-        Settled::Taken { pcm, looped } => {
-            fill(file, pcm, memory, word);
-            taken(word, pcm, looped)
-        }
-    }
-}
-
-fn refused(answer: Answer) -> Imported
-    ensures { result ≡ refused_by answer }
-{
-    Imported {
-        answer,
-        start: 0,
-        end: 0,
-        bits: 0,
-        samples: 0,
-    }
-}
-
-fn taken(word: usize, pcm: Chunk, looped: Loop) -> Imported
-    requires looped_bound { start_of word looped < 2 ^ 32 }
-    requires looped_bound_2 { end_of word looped < 2 ^ 32 }
-    requires size_bound { pcm.size < 2 ^ 32 }
-    ensures { result ≡ taken_at word pcm looped }
-{
-    Imported {
-        answer: Answer::Done,
+    let (pcm, looped) = settle(file, memory.len(), word)?;
+    fill(file, pcm, memory, word);
+    Ok(Taken {
         start: start_of(word, looped) as u32,
         end: end_of(word, looped) as u32,
         bits: loop_bits(looped),
         samples: (pcm.size / 2) as u32,
-    }
+    })
 }
 
-// The refusals in their order.
-fn settle(file: &[u8], room: usize, word: usize) -> Settled
+// The samples' chunk and the loop, or the refusals in their order.
+#[tactic(auto, unfolding(crate::specs::Steps::settled_of, crate::specs::Import::import_answer))]
+fn settle(file: &[u8], room: usize, word: usize) -> Result<(Chunk, Option<Loop>), Refusal>
     ensures { result ≡ settled_of file.now room word }
 {
     if sample::MOST_MEMORY_WORDS < room {
-        return Settled::Refused(Answer::MemoryLength);
+        return Err(Refusal::MemoryLength);
     }
-    let Parsed::Unbroken(found) = wave::parse(file) else {
-        return Settled::Refused(Answer::FileBroken);
-    };
-    if wave::is_miscounted(found) {
-        return Settled::Refused(Answer::ChunkCount);
+    let found = wave::parse(file).ok_or(Refusal::FileBroken)?;
+    let (format, pcm) = found.format_and_data().ok_or(Refusal::ChunkCount)?;
+    let is_odd = pcm.size % 2 == 1;
+    if !wave::is_mono16(file, format) || is_odd {
+        return Err(Refusal::SampleFormat);
     }
-    let format = found.format.first;
-    let pcm = found.pcm.first;
-    if !wave::is_mono16(file, format) | (pcm.size % 2 == 1) {
-        return Settled::Refused(Answer::SampleFormat);
+    let looped = wave::first_loop(file, found.sampler);
+    let count = pcm.size / 2;
+    if is_loop_invalid(count, looped) {
+        return Err(Refusal::LoopInvalid);
     }
-    let sampler = found.sampler;
-    let looped = wave::first_loop(file, sampler);
-    if is_loop_invalid(pcm.size / 2, looped) {
-        return Settled::Refused(Answer::LoopInvalid);
+    if has_no_place(room, word, count, looped) {
+        return Err(Refusal::NoPlace);
     }
-    if has_no_place(room, word, pcm.size / 2, looped) {
-        return Settled::Refused(Answer::NoPlace);
-    }
-    Settled::Taken { pcm, looped }
+    Ok((pcm, looped))
 }
 
 // ---- the loop as registers
 
-fn start_of(word: usize, l: Loop) -> usize
-    ensures { result ≡ start_of word l }
+#[tactic(auto, unfolding(crate::specs::Registers::start_of))]
+fn start_of(word: usize, looped: Option<Loop>) -> usize
+    ensures { result ≡ start_of word looped }
 {
-    match l {
-        Loop::Absent => 0,
-        Loop::Present {
-            form: _,
-            start,
-            last: _,
-        } => register_at(word, start as usize),
-    }
+    looped.map_or(0, |l| register_at(word, l.start as usize))
 }
 
-fn end_of(word: usize, l: Loop) -> usize
-    ensures { result ≡ end_of word l }
+#[tactic(auto, unfolding(crate::specs::Registers::end_of))]
+fn end_of(word: usize, looped: Option<Loop>) -> usize
+    ensures { result ≡ end_of word looped }
 {
-    match l {
-        Loop::Absent => 0,
-        Loop::Present {
-            form: _,
-            start: _,
-            last,
-        } => register_at(word, last as usize + 1),
-    }
+    looped.map_or(0, |l| register_at(word, l.last as usize + 1))
 }
 
 fn register_at(word: usize, sample: usize) -> usize
@@ -149,58 +100,47 @@ fn register_at(word: usize, sample: usize) -> usize
     (word % sample::BANK_WORDS as usize + sample) * sample::WHOLE_SAMPLE as usize
 }
 
-fn loop_bits(l: Loop) -> u32
-    ensures { result ≡ loop_bits l }
+#[tactic(auto, unfolding(crate::specs::Registers::loop_bits))]
+fn loop_bits(looped: Option<Loop>) -> u32
+    ensures { result ≡ loop_bits looped }
 {
-    match l {
-        Loop::Absent => 0,
-        Loop::Present {
-            form,
-            start: _,
-            last: _,
-        } => type_bits(form),
-    }
+    looped.map_or(0, |l| type_bits(l.form))
 }
 
+// The type stays the file's number: it is looked at here and in `is_loop_invalid`, and an enum of
+// the three would have to be made of it in both.
 fn type_bits(form: u32) -> u32
     ensures { result ≡ type_bits form }
 {
-    let one = control::with_bit(control::LPE, 1, 0);
-    if form == 1 {
-        return control::with_bit(control::BLE, 1, one);
+    let one = control::with_bit(control::LPE, true, 0);
+    match form {
+        1 => control::with_bit(control::BLE, true, one),
+        2 => control::with_bit(control::DIR, true, one),
+        _ => one,
     }
-    if form == 2 {
-        return control::with_bit(control::DIR, 1, one);
-    }
-    one
 }
 
 // ---- refusals
 
-fn is_loop_invalid(count: usize, l: Loop) -> bool
-    ensures { result ≡ is_loop_invalid count l }
+#[tactic(auto, unfolding(crate::specs::Import::is_loop_invalid))]
+fn is_loop_invalid(count: usize, looped: Option<Loop>) -> bool
+    ensures { result ≡ is_loop_invalid count looped }
 {
-    match l {
-        Loop::Absent => false,
-        Loop::Present { form, start, last } => (count <= last as usize)
-            | ((last < start) | (2 < form)),
-    }
+    looped.is_some_and(|l| count <= l.last as usize || l.last < l.start || 2 < l.form)
 }
 
 // The named word may be any number, so that its sum with the count might not fit: the count is
 // taken from the room.
-fn has_no_place(room: usize, word: usize, count: usize, l: Loop) -> bool
+#[tactic(auto, using(crate::proofs::Placed::end_test), unfolding(crate::specs::Import::has_no_place))]
+fn has_no_place(room: usize, word: usize, count: usize, looped: Option<Loop>) -> bool
     requires { count ≤ MOST_FILE_BYTES }
-    ensures { result ≡ has_no_place room word count l }
+    ensures { result ≡ has_no_place room word count looped }
 {
-    if room < count {
-        return true;
-    }
-    if room - count < word {
-        return true;
-    }
     let bank_words = sample::BANK_WORDS as usize;
-    (bank_words < word % bank_words + count) | (GREATEST_REGISTER < end_of(word, l))
+    room < count
+        || room - count < word
+        || bank_words < word % bank_words + count
+        || GREATEST_REGISTER < end_of(word, looped)
 }
 
 // ---- the samples
@@ -210,10 +150,8 @@ fn fill(file: &[u8], pcm: Chunk, memory: &mut [u16], word: usize)
     requires { Placeable file.now pcm (length memory.old) word }
     ensures { memory.new ≡ with_part memory.old word (samples_of file.now pcm) }
 {
-    let from = pcm.place;
-    let to = from + pcm.size;
-    let end = word + pcm.size / 2;
-    copy(&mut memory[word..end], &file[from..to]);
+    let samples = &mut memory[word..word + pcm.size / 2];
+    copy(samples, &file[pcm.place..pcm.place + pcm.size]);
 }
 
 // Bytes by twos, the lowest first, into just as many words.
@@ -221,7 +159,8 @@ fn copy(words: &mut [u16], bytes: &[u8])
     requires { length bytes.now ≡ 2 * length words.old }
     ensures { words.new ≡ twos little bytes.now }
 {
-    for i in 0..words.len() {
-        words[i] = layout::little2(bytes[2 * i], bytes[2 * i + 1]);
+    let (pairs, _) = bytes.as_chunks::<2>();
+    for (i, word) in words.iter_mut().enumerate() {
+        *word = u16::from_le_bytes(pairs[i]);
     }
 }
