@@ -1,6 +1,6 @@
 //! The engine for hosts in C, C++ and Rust: each call under its C name, with the promise of the
 //! call. A slice passes as a pointer and a length. `include/otto.h` is the other side.
-#![tactic(auto)]
+#![tactic(auto, unfolding(calls::specs::Calls::answer_to, calls::specs::Calls::after, calls::specs::Calls::given_by, calls::specs::Calls::output_from))]
 
 ghost use Rattle.std.specs.Prelude.{◌≡◌};
 ghost use Rattle.codes.specs.Codes.{value_of, Compressed};
@@ -88,10 +88,10 @@ pub extern "C" fn otto_import(
     ensures { Importing file.now memory.old word result start.new end.new bits.new samples.new memory.new }
 {
     let got = wave_in::import(file, memory, word);
-    let import = got.unwrap_or_default();
-    *start = import.start;
-    *end = import.end;
-    *bits = import.bits;
-    *samples = import.samples;
+    let taken = got.unwrap_or_default();
+    *start = taken.start;
+    *end = taken.end;
+    *bits = taken.bits;
+    *samples = taken.samples;
     answer::number(got)
 }
