@@ -11,13 +11,13 @@ unfoldable pub left : List ℕ → List ℕ → ℕ → ℕ → ℕ
 left memory commands command made = cond (ltb command (command_count commands)) (1 + length (left_from memory commands command made)) 0
 
 pub fewer : (m memory commands : List ℕ) (command made : ℕ) (part : List ℕ) (r : Played) (later heard : List ℕ) → length part ≡ 65536 → command < command_count commands
-    → Plays m memory commands command made part r later heard → left memory commands r.command r.made < left memory commands command made
+    → Plays m memory commands command made part r later heard → left memory commands r.position.command r.position.made < left memory commands command made
 unfolding left
 fewer m memory commands command made part r later heard l h p =
     rw (lt-ltb command (command_count commands) h)
-    (split _ (ltb r.command (command_count commands))
+    (split _ (ltb r.position.command (command_count commands))
     (λ t.
     let e : length part / SAMPLE_BYTES ≡ 16384 = rw l (omega arith) in
-    let d : length (left_from memory commands r.command r.made) ≡ length (left_from memory commands command made) - length part / SAMPLE_BYTES = ap length p.goes ∙ length-drop (length part / SAMPLE_BYTES) (left_from memory commands command made) in
-    rw t (omega (arith, d, e, p.ends (ltb-true r.command (command_count commands) t))))
+    let d : length (left_from memory commands r.position.command r.position.made) ≡ length (left_from memory commands command made) - length part / SAMPLE_BYTES = ap length p.goes ∙ length-drop (length part / SAMPLE_BYTES) (left_from memory commands command made) in
+    rw t (omega (arith, d, e, p.ends (ltb-true r.position.command (command_count commands) t))))
     (λ f. rw f (omega arith)))

@@ -6,77 +6,65 @@
 //! ends the program with its error; what was written until then stands.
 #![tactic(auto)]
 
-ghost use Rattle.std.specs.Prelude.{◌≡◌, ◌*◌, ◌≤◌, length, take};
-ghost use Rattle.scores.specs.Score.{MOST_FULL_BYTES, MOST_FRAMES, commands_of, verdict_of};
+ghost use Rattle.std.specs.Prelude.{◌≡◌, ◌*◌, ◌≤◌, ℕ, List, ◌++◌, length, take, OnOk};
+ghost use Rattle.std.specs.Io.KnownBytes.{Appends};
+ghost use Rattle.wave_head.specs.Head.{sound_head};
+ghost use Rattle.scores.specs.Score.{MOST_FULL_BYTES, MOST_FRAMES, Good, commands_of, verdict_of};
 ghost use Rattle.scores.specs.Sound.{SAMPLE_BYTES};
-ghost use Rattle.scores.specs.declared.Verdict.TheVariants.{Good};
+ghost use Rattle.scores.specs.Playing.{heard_from, left_from};
+ghost use Rattle.play.specs.Wave.{WritesSound};
 
-use scores::Verdict;
-use std::io;
-use std::io::{Eprint, Print, Write};
+use repeats::COMMAND_BYTES;
+use scores::Position;
+use std::io::{self, Eprint, Write};
 
 // One byte more than a score may have is read, so that a longer one is seen. Nothing is written
 // before the whole score is known to be good.
+// An array and how much of it was read, and no `Vec` that `read_to_end` fills: the programs ask for
+// no memory, and a read that a signal interrupts ends this one, where `read_to_end` begins it again.
 fn main(rt: HostRuntime) -> io::Result<()> {
-    let mut input = [0u8; 65537];
+    let mut input = [0; 65537];
     let n = streams::read_full(&mut rt.reader(), &mut input)?;
-    let mut full = [0u8; scores::MOST_FULL_BYTES];
-    let verdict = scores::judge(&input[..n], &mut full);
-    match verdict {
-        Verdict::Good => play(&rt, &input[..n], &full),
-        _ => complain_of(&rt, verdict),
+    let score = &input[..n];
+    let mut full = [0; scores::MOST_FULL_BYTES];
+    match scores::judge(score, &mut full) {
+        Ok(()) => play(&rt, &mut io::writer(&rt), score, &full),
+        Err(error) => eprintln!(rt; "play: {error}"),
     }
 }
 
 // A good score, whose commands stand in full at the start of `full`.
-fn play(rt: &(impl Print + Eprint), score: &[u8], full: &[u8]) -> io::Result<()>
+fn play<W: Write>(rt: &impl Eprint, file: &mut W, score: &[u8], full: &[u8]) -> io::Result<()>
     requires { (verdict_of score.now ≡ Good) × (length full.now ≡ MOST_FULL_BYTES) × (take (length (commands_of score.now)) full.now ≡ commands_of score.now) }
+    ensures { OnOk result (WritesSound (W.contents file.old) (W.contents file.new) score.now) }
 {
     let n = repeats::full_bytes(&score[scores::MEMORY_BYTES..]);
-    sound(rt, score, &full[..n])
-}
-
-// The line of a score that is not good.
-fn complain_of(rt: &impl Eprint, verdict: Verdict) -> io::Result<()> {
-    match verdict {
-        Verdict::Good => Ok(()),
-        Verdict::TooLong => complain(rt, "the score has more than 65,536 bytes"),
-        Verdict::NoMemory => complain(
-            rt,
-            "the score ends before its 8,192 bytes of sample memory do",
-        ),
-        Verdict::Cut => complain(rt, "the score ends within a command"),
-        Verdict::TooManyCommands => complain(rt, "the score has more than 65,536 commands in full"),
-        Verdict::Unknown => complain(rt, "a command is of an unknown kind"),
-        Verdict::NotThere => complain(
-            rt,
-            "a repeat goes back past the first command, or asks for more than it goes back by",
-        ),
-        Verdict::TooManyFrames => complain(rt, "the score has more frames than a WAVE file holds"),
-    }
-}
-
-fn complain(rt: &impl Eprint, text: &str) -> io::Result<()> {
-    eprintln!(rt; "play: {text}")
+    sound(rt, file, score, &full[..n])
 }
 
 // The head of the file, and then the sound.
-fn sound(rt: &(impl Print + Eprint), score: &[u8], commands: &[u8]) -> io::Result<()>
+fn sound<W: Write>(
+    rt: &impl Eprint,
+    file: &mut W,
+    score: &[u8],
+    commands: &[u8],
+) -> io::Result<()>
     requires { (verdict_of score.now ≡ Good) × (commands.now ≡ commands_of score.now) }
+    ensures { OnOk result (WritesSound (W.contents file.old) (W.contents file.new) score.now) }
 {
-    let mut memory = [0u16; scores::MEMORY_WORDS];
+    let mut memory = [0; scores::MEMORY_WORDS];
     scores::fill(&mut memory, score);
     let frames = scores::frames_of(commands);
-    put_head(rt, (scores::SAMPLE_BYTES as u64 * frames) as u32)?;
+    put_head(file, (scores::SAMPLE_BYTES as u64 * frames) as u32)?;
     let mut m = [scores::FIRST_WORD; machine::RECORD_WORDS];
-    render(rt, &mut m, &memory, commands, frames)
+    render(rt, file, &mut m, &memory, commands, frames)
 }
 
 // What stands before so many bytes of sound.
-fn put_head(rt: &impl Print, bytes: u32) -> io::Result<()>
+fn put_head<W: Write>(file: &mut W, bytes: u32) -> io::Result<()>
     requires { bytes ≤ SAMPLE_BYTES * MOST_FRAMES }
+    ensures { OnOk result (Appends (W.contents file.old) (W.contents file.new) (sound_head 2 31250 bytes)) }
 {
-    let mut file = io::writer(rt);
     file.write_all(&wave_head::riff_head(wave_head::CHUNKS_BYTES + bytes))?;
     file.write_all(&wave_head::format_chunk(2, wave_head::RATE))?;
     file.write_all(&wave_head::data_head(bytes))
@@ -84,27 +72,28 @@ fn put_head(rt: &impl Print, bytes: u32) -> io::Result<()>
 
 // The score in parts, of 16,384 calls each. A score has at most 2^32 calls, so that no sum here
 // wraps.
-fn render(
-    rt: &(impl Print + Eprint),
+fn render<W: Write>(
+    rt: &impl Eprint,
+    file: &mut W,
     m: &mut [u32],
     memory: &[u16],
     commands: &[u8],
     frames: u64,
-) -> io::Result<()> {
+) -> io::Result<()>
+    ensures { OnOk result (Appends (W.contents file.old) (W.contents file.new) (heard_from m.old (left_from memory.now commands.now 0 0))) }
+{
     let mut part = part_buffer();
-    let mut command = 0;
-    let mut made = 0;
-    let mut played = 0;
-    let mut refused = 0;
+    let mut position = Position::default();
+    let mut played: u64 = 0;
+    let mut refused: u64 = 0;
     let mut loud = 0;
     say_progress(rt, 0, frames);
-    while command < commands.len() / repeats::COMMAND_BYTES {
-        let p = scores::play(m, memory, commands, command, made, &mut part);
-        loud = put(rt, &part, p.frames, loud)?;
-        played = std::num::wrapping_add_u64(played, p.frames as u64);
-        refused = std::num::wrapping_add_u64(refused, p.refused as u64);
-        command = p.command;
-        made = p.made;
+    while position.command < commands.len() / COMMAND_BYTES {
+        let next = scores::play(m, memory, commands, position, &mut part);
+        loud = put(file, &part, next.frames, loud)?;
+        played = played.wrapping_add(next.frames as u64);
+        refused = refused.wrapping_add(next.refused as u64);
+        position = next.position;
         say_progress(rt, played, frames);
     }
     say_end(rt, loud, refused);
@@ -120,18 +109,19 @@ fn part_buffer() -> [u8; 65536]
 }
 
 // The first frames of a part; answers the loudest sample until then.
-fn put(rt: &impl Print, part: &[u8], frames: usize, loud: u32) -> io::Result<u32>
+fn put<W: Write>(file: &mut W, part: &[u8], frames: usize, loud: u32) -> io::Result<u32>
     requires { SAMPLE_BYTES * frames ≤ length part.now }
+    ensures { OnOk result (Appends (W.contents file.old) (W.contents file.new) (take (SAMPLE_BYTES * frames) part.now)) }
 {
-    let bytes = scores::SAMPLE_BYTES * frames;
-    io::writer(rt).write_all(&part[..bytes])?;
-    Ok(scores::loudest(&part[..bytes], loud))
+    let sound = &part[..scores::SAMPLE_BYTES * frames];
+    file.write_all(sound)?;
+    Ok(scores::loudest(sound, loud))
 }
 
 // How far it is. Where standard error takes no line the sound goes on.
 fn say_progress(rt: &impl Eprint, played: u64, frames: u64) {
-    let now = played / wave_head::RATE as u64;
-    let all = frames / wave_head::RATE as u64;
+    let now = played / u64::from(wave_head::RATE);
+    let all = frames / u64::from(wave_head::RATE);
     eprint!(rt; "\rplay: {now} of {all} seconds").ok();
 }
 

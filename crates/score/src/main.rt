@@ -9,101 +9,91 @@
 //! fails ends the program with its error; what was written until then stands.
 #![tactic(auto)]
 
-ghost use Rattle.std.specs.Prelude.{◌≡◌, ◌≤◌, nat_abs, length};
+ghost use Rattle.std.specs.Prelude.{◌≤◌, length, OnOk};
+ghost use Rattle.std.specs.Io.KnownBytes.{Appends};
 ghost use Rattle.scores.specs.Score.{MOST_BYTES, MEMORY_BYTES};
+ghost use Rattle.score.specs.Values.{values_text};
 
-use calls::{Ask, Reply};
+use answer::Refusal;
+use calls::Ask;
+use repeats::COMMAND_BYTES;
 use scores::Command;
-use std::io;
+use std::io::{self, Write};
 
+// An array and how much of it was read, and no `Vec` that `read_to_end` fills: the programs ask for
+// no memory, and a read that a signal interrupts ends this one, where `read_to_end` begins it again.
 fn main(rt: HostRuntime) -> io::Result<()> {
-    let mut input = [0u8; scores::MOST_BYTES];
+    let mut input = [0; scores::MOST_BYTES];
     let n = streams::read_full(&mut rt.reader(), &mut input)?;
     if scores::MEMORY_BYTES <= n {
-        let mut full = [0u8; scores::MOST_FULL_BYTES];
-        play(&rt, &input[..n], &mut full)?;
+        let mut full = [0; scores::MOST_FULL_BYTES];
+        play(&mut io::writer(&rt), &input[..n], &mut full)?;
     }
     Ok(())
 }
 
 // Its commands in full, on a record that is not valid at first.
-fn play(rt: &impl Print, score: &[u8], full: &mut [u8]) -> io::Result<()>
+fn play<W: Write>(out: &mut W, score: &[u8], full: &mut [u8]) -> io::Result<()>
     requires { (MEMORY_BYTES ≤ length score.now) × (length score.now ≤ MOST_BYTES) }
 {
-    if full.len() < repeats::full_bytes(&score[scores::MEMORY_BYTES..]) {
+    let commands = &score[scores::MEMORY_BYTES..];
+    if full.len() < repeats::full_bytes(commands) {
         return Ok(());
     }
-    let n = repeats::put_in_full(&score[scores::MEMORY_BYTES..], full);
-    let mut memory = [0u16; scores::MEMORY_WORDS];
+    let n = repeats::put_in_full(commands, full);
+    let mut memory = [0; scores::MEMORY_WORDS];
     scores::fill(&mut memory, score);
     let mut m = [scores::FIRST_WORD; machine::RECORD_WORDS];
-    obey_all(rt, &mut m, &memory, &full[..n])
-}
-
-// The commands in turn.
-fn obey_all(rt: &impl Print, m: &mut [u32], memory: &[u16], commands: &[u8]) -> io::Result<()> {
-    for k in 0..commands.len() / repeats::COMMAND_BYTES {
-        let command = scores::command_at(commands, repeats::COMMAND_BYTES * k);
-        obey(rt, m, memory, command)?;
+    let (whole, _) = full[..n].as_chunks::<COMMAND_BYTES>();
+    for command in whole {
+        obey(out, &mut m, &memory, Command::from(*command))?;
     }
     Ok(())
 }
 
 // A command's calls.
-fn obey(rt: &impl Print, m: &mut [u32], memory: &[u16], c: Command) -> io::Result<()> {
-    for _ in 0..c.times {
-        let mut out = [0i32; machine::OUTPUT_VALUES];
-        let reply = calls::perform(m, c.ask, memory, &mut out);
-        say(rt, c.ask, reply, &out)?;
-    }
-    if c.times == 0 {
-        println!(rt; "no call")?;
-    }
-    Ok(())
-}
-
-// The line of a call that was made.
-fn say(rt: &impl Print, ask: Ask, reply: Reply, out: &[i32]) -> io::Result<()> {
-    let number = answer::number(reply.answer);
-    let given = reply.given;
-    print!(rt; "{number}")?;
-    match ask {
-        Ask::Read(_) => print!(rt; " {given}")?,
-        Ask::Waiting => print!(rt; " {given}")?,
-        Ask::Frame => {
-            print!(rt; " {given}")?;
-            say_values(rt, out)?;
+fn obey<W: Write>(out: &mut W, m: &mut [u32], memory: &[u16], command: Command) -> io::Result<()> {
+    match command {
+        Command::Once(ask) => make(out, m, memory, ask),
+        Command::Frames(0) | Command::Nothing => writeln!(out, "no call"),
+        Command::Frames(count) => {
+            for _ in 0..count {
+                make(out, m, memory, Ask::Frame)?;
+            }
+            Ok(())
         }
-        _ => {}
     }
-    println!(rt; "")
 }
 
-fn say_values(rt: &impl Print, out: &[i32]) -> io::Result<()> {
-    for i in 0..out.len() {
-        say_value(rt, out[i])?;
+// A call, and its line.
+fn make<W: Write>(out: &mut W, m: &mut [u32], memory: &[u16], ask: Ask) -> io::Result<()> {
+    let mut values = [0; machine::OUTPUT_VALUES];
+    let answer = calls::perform(m, ask, memory, &mut values);
+    put_answer(out, ask, answer)?;
+    if let Ask::Frame = ask {
+        put_values(out, &values)?;
+    }
+    writeln!(out, "")
+}
+
+// The answer's number, and after a space the number that the call gives, which is 0 where it is
+// refused. A call that gives none has none there.
+fn put_answer<W: Write>(out: &mut W, ask: Ask, answer: Result<u32, Refusal>) -> io::Result<()> {
+    let number = answer::number(answer);
+    write!(out, "{number}")?;
+    if let Ask::Read(_) | Ask::Waiting | Ask::Frame = ask {
+        let given = answer.unwrap_or(0);
+        write!(out, " {given}")?;
     }
     Ok(())
 }
 
-// A space, and a value of the output.
-fn say_value(rt: &impl Print, z: i32) -> io::Result<()> {
-    let digits = magnitude(z);
-    if z < 0 {
-        return print!(rt; " -{digits}");
-    }
-    print!(rt; " {digits}")
-}
-
-// What a number's digits say. The least number of 32 bits has none above it to match, so the sign
-// is turned in 64.
-fn magnitude(z: i32) -> u64
-    ensures { result ≡ nat_abs z }
+// A frame's values, each after a space.
+fn put_values<W: Write>(out: &mut W, values: &[i32]) -> io::Result<()>
+    ensures { OnOk result (Appends (W.contents out.old) (W.contents out.new) (values_text values.now)) }
 {
-    let wide = z as i64;
-    if wide < 0 {
-        (0 - wide) as u64
-    } else {
-        wide as u64
+    for value in values {
+        write!(out, " {value}")?;
     }
+    Ok(())
 }

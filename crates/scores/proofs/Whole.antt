@@ -66,7 +66,7 @@ calls_long memory commands (suc n) k =
 
 -- ---- what is heard
 
-none_heard : (m : List ℕ) → heard_from m [] ≡ []
+pub none_heard : (m : List ℕ) → heard_from m [] ≡ []
 unfolding heard_from frames_in outputs sound_of
 none_heard m = refl
 

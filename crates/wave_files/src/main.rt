@@ -8,10 +8,11 @@
 
 ghost use Rattle.std.specs.Prelude.{◌+◌, ◌≤◌, length};
 
+use answer::Refusal;
 use std::env::{Env, FillError};
 use std::rt::Files;
 use std::{fs, io, str};
-use wave_in::Imported;
+use wave_in::Taken;
 
 // The named word, and what every word of the memory holds before.
 const WORD: usize = 16;
@@ -19,9 +20,10 @@ const WORD: usize = 16;
 const FILLER: u16 = 42405;
 
 // A file that cannot be opened gives a line on standard error in place of its own, and so does a
-// name that is not text or is too long.
+// name that is not text or is too long. So the arguments are asked for one by one: `env::args` asks
+// for memory, and fails for all of them where one is not text.
 fn main(rt: HostRuntime) -> io::Result<()> {
-    let mut name = [0u8; 4096];
+    let mut name = [0; 4096];
     for i in 1..usize::MAX {
         match rt.arg(i, &mut name) {
             Ok(n) => take_argument(&rt, &name[..n])?,
@@ -46,20 +48,22 @@ fn take_argument(rt: &(impl Files + Print + Eprint), name: &[u8]) -> io::Result<
 }
 
 // The file of a name. One byte more than an import takes is read, so that a longer file is seen.
+// An array and how much of it was read, and no `Vec` that `read_to_end` fills: the programs ask for
+// no memory, and a read that a signal interrupts ends this one, where `read_to_end` begins it again.
 fn take(rt: &(impl Files + Print + Eprint), name: &str) -> io::Result<()> {
     let mut source = match fs::open(rt, name) {
         Ok(source) => source,
-        Err(e) => {
-            eprintln!(rt; "{name}: {e}").ok();
+        Err(error) => {
+            eprintln!(rt; "{name}: {error}").ok();
             return Ok(());
         }
     };
-    let mut file = [0u8; 65537];
+    let mut file = [0; 65537];
     let bytes = streams::read_full(&mut source, &mut file)?;
     let mut memory = [FILLER; 512];
-    let got = wave_in::import(&file[..bytes], &mut memory, WORD);
+    let answer = wave_in::import(&file[..bytes], &mut memory, WORD);
     print!(rt; "{name}")?;
-    say(rt, got, &memory)
+    say(rt, answer, &memory)
 }
 
 // Where standard error takes no line the run goes on.
@@ -67,62 +71,43 @@ fn complain(rt: &impl Eprint, text: &str) {
     eprintln!(rt; "wave_files: {text}").ok();
 }
 
-fn say(rt: &impl Print, got: Imported, memory: &[u16]) -> io::Result<()> {
-    let answer = answer::number(got.answer);
-    let start = got.start;
-    let last = got.end;
-    let bits = got.bits;
-    let samples = got.samples;
-    let end = WORD + samples as usize;
-    let elsewhere = changed(memory, end);
+fn say(rt: &impl Print, answer: Result<Taken, Refusal>, memory: &[u16]) -> io::Result<()> {
+    let number = answer::number(answer);
+    let Taken {
+        start,
+        end,
+        bits,
+        samples,
+    } = answer.unwrap_or_default();
+    let past = WORD + samples as usize;
+    let elsewhere = changed(memory, past);
     println!(rt;
-        ": answer {answer}, START {start}, END {last}, loop {bits}, samples {samples}, changed elsewhere {elsewhere}"
+        ": answer {number}, START {start}, END {end}, loop {bits}, samples {samples}, changed elsewhere {elsewhere}"
     )?;
-    if WORD < end {
-        say_samples(rt, memory, end)?;
-        println!(rt; "")?;
+    match memory.get(WORD..past) {
+        Some(words) if !words.is_empty() => say_words(rt, words),
+        _ => Ok(()),
     }
-    Ok(())
 }
 
 // How many words before the named one, and from the end of the samples on, are not as they were.
-fn changed(memory: &[u16], end: usize) -> usize
+fn changed(memory: &[u16], past: usize) -> usize
     ensures { result ≤ length memory.now }
 {
-    let mut count: usize = 0;
-    for k in 0..memory.len() {
-        count += differs(memory[k], k, end);
-    }
-    count
+    memory
+        .iter()
+        .enumerate()
+        .filter(|(k, word)| !(WORD..past).contains(k) && **word != FILLER)
+        .count()
 }
 
-fn differs(word: u16, k: usize, end: usize) -> usize
-    ensures { result ≤ 1 }
-{
-    if WORD <= k {
-        if k < end {
-            return 0;
+// A line of words, with a space between.
+fn say_words(rt: &impl Print, words: &[u16]) -> io::Result<()> {
+    for (i, word) in words.iter().enumerate() {
+        if 0 < i {
+            print!(rt; " ")?;
         }
+        print!(rt; "{word}")?;
     }
-    if word == FILLER { 0 } else { 1 }
-}
-
-// The words from the named one to the end of the samples, with a space between.
-fn say_samples(rt: &impl Print, memory: &[u16], end: usize) -> io::Result<()> {
-    for k in 0..memory.len() {
-        say_sample(rt, memory[k], k, end)?;
-    }
-    Ok(())
-}
-
-fn say_sample(rt: &impl Print, word: u16, k: usize, end: usize) -> io::Result<()> {
-    if WORD <= k {
-        if k < end {
-            if WORD < k {
-                print!(rt; " ")?;
-            }
-            print!(rt; "{word}")?;
-        }
-    }
-    Ok(())
+    println!(rt; "")
 }
