@@ -4,6 +4,7 @@
 --
 -- The rows of chords show what becomes of channel sums past the rails. A sum held after each voice would be heard: nine voices would give what
 -- eight do, and high and low voices together would depend on which came first.
+use Rattle.std.specs.Prelude.{Err}
 use mathlib.Core.Path.{◌≡◌, refl}
 use mathlib.Core.Bool.{true}
 use mathlib.Core.List.{List, [], ◌∷◌, ◌++◌, map}
@@ -180,6 +181,6 @@ vectors_after = (refl, (refl, refl))
 
 -- What frame/proofs/Vector asks of the frame is needed: a vector that names a voice stays, whoever waits; and one that is empty stays so where the
 -- frame is refused, here for want of an output.
-pub vectors_kept : (vector_after (set flagged IRQV 5) silence ≡ (Done, 5)) × (vector_after flagged [] ≡ (OutputLength, NO_INTERRUPT))
+pub vectors_kept : (vector_after (set flagged IRQV 5) silence ≡ (Done, 5)) × (vector_after flagged [] ≡ (Err OutputLength, NO_INTERRUPT))
 unfolding framed
 vectors_kept = (refl, refl)

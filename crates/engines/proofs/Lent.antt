@@ -64,7 +64,7 @@ unfolding answer_to after reset_record pot_answer
 done_valid m Reset h d = rw d fresh-valid
 done_valid m (Write a b) h d = after-valid m (Write a b) h (is_valid m (byte_done m a d).0)
 done_valid m (Read a) h d = after-valid m (Read a) h (is_valid m (byte_done m a d).0)
-done_valid m (SetPot p) h d = after-valid m (SetPot p) h (is_valid m (asked_back m 1023 p Pot refl d).0)
+done_valid m (SetPot p) h d = after-valid m (SetPot p) h (is_valid m (asked_back m 1023 p Pot d).0)
 done_valid m Waiting h d = after-valid m Waiting h (is_valid m (not_refused m (is_done_lem (waiting_answer m) d)))
 done_valid m (Frame memory out) h d = after-valid m (Frame memory out) h (is_valid m (done_frame m memory out (is_done_lem (frame_answer m memory out) d)).machine)
 
