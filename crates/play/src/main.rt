@@ -43,12 +43,7 @@ fn play<W: Write>(rt: &impl Eprint, file: &mut W, score: &[u8], full: &[u8]) -> 
 }
 
 // The head of the file, and then the sound.
-fn sound<W: Write>(
-    rt: &impl Eprint,
-    file: &mut W,
-    score: &[u8],
-    commands: &[u8],
-) -> io::Result<()>
+fn sound<W: Write>(rt: &impl Eprint, file: &mut W, score: &[u8], commands: &[u8]) -> io::Result<()>
     requires { (verdict_of score.now ≡ Good) × (commands.now ≡ commands_of score.now) }
     ensures { OnOk result (WritesSound (W.contents file.old) (W.contents file.new) score.now) }
 {
