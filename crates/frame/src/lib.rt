@@ -67,9 +67,9 @@ fn play(m: &mut Machine, memory: &[u16]) -> u32
 {
     let samples = Samples::new(memory);
     let slow = m.words[machine::SLOW];
-    let n = count(m.words[machine::ACTV]);
+    let last = m.words[machine::ACTV] as usize;
     let mut missing = 0;
-    for v in 0..n {
+    for v in 0..=last {
         turn(m.words, v, slow, &samples, &mut missing);
     }
     missing
@@ -125,9 +125,7 @@ fn add_to(m: &mut [u32], at: usize, z: i32)
     requires within { Within 1048576 z }
     ensures { m.new ≡ added_to m.old at z }
 {
-    let old = m[at];
-    let new = channel::mix(old, numbers::word_of(23, z));
-    m[at] = new;
+    m[at] = channel::mix(m[at], numbers::word_of(23, z));
 }
 
 // The left sum of a channel.
@@ -194,11 +192,4 @@ fn next(slow: u32) -> u32
     ensures { result ≡ (slow + 1) % 8 }
 {
     (slow % 8 + 1) % 8
-}
-
-// How many voices are active.
-fn count(last: u32) -> usize
-    ensures { result ≡ last + 1 }
-{
-    last as usize + 1
 }

@@ -5,4 +5,4 @@ use Rattle.frame.proofs.add_to.Goals as goal
 
 pub returns : goal.returns
 unfolding added_to
-returns c = rw (c.mix-new.ensures.0, c.word_of.ensures.0, to_z-of_z c.ranges.z)
+returns c = rw (c.mix.ensures.0, c.word_of.ensures.0, to_z-of_z c.ranges.z)

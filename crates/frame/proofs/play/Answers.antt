@@ -17,6 +17,16 @@ use Rattle.frame.proofs.Leaves.{slow_stays, turned}
 use Rattle.frame.proofs.Missing.{missed_in_turns, missed_in-turns, missed_in-turns_most}
 use Rattle.frame.proofs.play.Goals as goal
 
+-- one turn more, over the memory that was lent
+module _ (m : List ℕ) (v : ℕ) {memory lent now : List ℕ} (e : lent ≡ memory) (h : now ≡ turns memory v m) where
+  turned_on : {after : List ℕ} → after ≡ turn_at lent v now → after ≡ turns memory (v + 1) m
+  unfolding turns
+  turned_on f = rw add-one (f ∙ (λ i. turn_at (e i) v (h i)))
+
+  missed_on : {missing more : ℕ} → missing ≡ missed_in_turns memory v m → more ≡ missing + missed_by lent (voice_of (voice_at now v)) → more ≡ missed_in_turns memory (v + 1) m
+  unfolding missed_in_turns sum
+  missed_on k f = rw add-one (f ∙ (λ i. k i + missed_by (e i) (voice_of (voice_at (h i) v))))
+
 pub loop-v-init : goal.loop-v-init
 unfolding turns missed_in_turns sum
 loop-v-init c = record { same = refl; turned = refl; missed = refl }
@@ -41,16 +51,12 @@ invariant_of-m c =
     record { whole = rw e s.size; sound = rw e (is_valid _ s) }
 
 pub loop-v-preserved : goal.loop-v-preserved
-unfolding turns missed_in_turns sum
 loop-v-preserved c =
-    let l = c.loop-v in
-    let h = l.invariant in
-    let memory = c.args.memory.now in
-    let lent = c.new-samples.ensures in
+    let h = c.loop-v.invariant in
     record {
       same = h.same;
-      turned = rw add-one (c.turn.ensures.m_after ∙ (λ i. turn_at (lent i) l.v (h.turned i)));
-      missed = rw add-one (c.turn.ensures.missing_after ∙ (λ i. h.missed i + missed_by (lent i) (voice_of (voice_at (h.turned i) l.v))));
+      turned = turned_on c.args.m.now.words.now c.loop-v.v c.new-samples.ensures h.turned c.turn.ensures.m_after;
+      missed = missed_on c.args.m.now.words.now c.loop-v.v c.new-samples.ensures h.turned h.missed c.turn.ensures.missing_after;
     }
 
 pub returns-clause-leaves : goal.returns-clause-leaves
@@ -66,3 +72,20 @@ returns-clause-missing c =
     let m = c.args.m.now.words.now in
     let e : c.loop-v.v ≡ get_or m ACTV 0 + 1 = omega arith in
     c.loop-v.invariant.missed ∙ ap (λ (k : ℕ). missed_in_turns c.args.memory.now k m) e ∙ missed_in-turns c.args.memory.now (sound m c.args.m.now.sound)
+
+-- the same where the last turn was that of voice ACTV
+pub returns-2-clause-leaves : goal.returns-2-clause-leaves
+unfolding played
+returns-2-clause-leaves c =
+    let h = c.loop-v.invariant in
+    let m = c.args.m.now.words.now in
+    let e : c.loop-v.v + 1 ≡ get_or m ACTV 0 + 1 = omega arith in
+    (h.same, turned_on c.args.m.now.words.now c.loop-v.v c.new-samples.ensures h.turned c.turn.ensures.m_after ∙ ap (λ (k : ℕ). turns c.args.memory.now k m) e)
+
+pub returns-2-clause-missing : goal.returns-2-clause-missing
+returns-2-clause-missing c =
+    let h = c.loop-v.invariant in
+    let m = c.args.m.now.words.now in
+    let e : c.loop-v.v + 1 ≡ get_or m ACTV 0 + 1 = omega arith in
+    missed_on c.args.m.now.words.now c.loop-v.v c.new-samples.ensures h.turned h.missed c.turn.ensures.missing_after
+    ∙ ap (λ (k : ℕ). missed_in_turns c.args.memory.now k m) e ∙ missed_in-turns c.args.memory.now (sound m c.args.m.now.sound)
