@@ -1,7 +1,7 @@
 //! The address step of a running voice: ACCUM moves by FC, and a loop point that it passes makes a
 //! loop event. Targets are `i64`, so that a step past either end of the 32 bits is seen before it
-//! wraps. Forward and in reverse are a function each, as the rule is: one for both would ask for the
-//! direction at the target, at the loop point and at the event.
+//! wraps. Forward and in reverse are a function each, as the rule is: one for both would ask for
+//! the direction at the target, at the loop point and at the event.
 #![tactic(auto)]
 
 ghost use Rattle.std.specs.Prelude.{◌≡◌, ◌<◌, ◌≤◌, cond};
@@ -20,7 +20,6 @@ pub struct Place {
 }
 
 /// ACCUM and the control register after the step.
-#[tactic(auto, unfolding(crate::specs::Address::stepped))]
 pub fn step(cr: u32, fc: u32, start: u32, end: u32, accum: u32) -> Place
     requires { cr < 65536 }
     ensures { (result ≡ stepped cr fc start end accum) × (result.cr < 65536) }
@@ -33,8 +32,7 @@ pub fn step(cr: u32, fc: u32, start: u32, end: u32, accum: u32) -> Place
 }
 
 fn forward(cr: u32, fc: u32, start: u32, end: u32, accum: u32) -> Place
-    requires { cr < 65536 }
-    ensures { (result ≡ Address-as-forward cr fc start end accum) × (result.cr < 65536) }
+    ensures { result ≡ Address-as-forward cr fc start end accum }
 {
     let target = i64::from(accum) + i64::from(fc);
     if control::flag(control::LEI, cr) || target <= i64::from(end) {
@@ -50,8 +48,7 @@ fn forward(cr: u32, fc: u32, start: u32, end: u32, accum: u32) -> Place
 }
 
 fn reverse(cr: u32, fc: u32, start: u32, end: u32, accum: u32) -> Place
-    requires { cr < 65536 }
-    ensures { (result ≡ Address-as-reverse cr fc start end accum) × (result.cr < 65536) }
+    ensures { result ≡ Address-as-reverse cr fc start end accum }
 {
     let target = i64::from(accum) - i64::from(fc);
     if control::flag(control::LEI, cr) || target >= i64::from(start) {
@@ -67,33 +64,32 @@ fn reverse(cr: u32, fc: u32, start: u32, end: u32, accum: u32) -> Place
 }
 
 // A loop event, by the loop mode. Both directions share it: they differ in where the three ways
-// lead, and in the direction after.
+// lead, and in the direction after, and each says so in one call.
 fn event(cr: u32, passed: u32, across: i64, back: i64, reverse: bool) -> Place
-    requires cr_bound { cr < 65536 }
     requires within { Within 17179869184 across }
     requires within_2 { Within 17179869184 back }
-    ensures { (result ≡ Event-as-event cr passed across back (cond reverse 1 0)) × (result.cr < 65536) }
+    ensures { result ≡ Event-as-event cr passed across back (cond reverse 1 0) }
 {
     let up = raise(cr);
     match control::loop_mode(cr) {
         LoopMode::Stop => Place {
             accum: passed,
-            cr: control::with_bit(control::STP0, true, up),
+            cr: control::put(control::STP0, true, up),
         },
         LoopMode::Loop => Place {
             accum: wrap(across),
             cr: up,
         },
         LoopMode::Once => {
-            let once = control::with_bit(control::BLE, false, up);
+            let once = control::put(control::BLE, false, up);
             Place {
                 accum: wrap(across),
-                cr: control::with_bit(control::LEI, true, once),
+                cr: control::put(control::LEI, true, once),
             }
         }
         LoopMode::Turn => Place {
             accum: wrap(back),
-            cr: control::with_bit(control::DIR, reverse, up),
+            cr: control::put(control::DIR, reverse, up),
         },
     }
 }
@@ -101,11 +97,10 @@ fn event(cr: u32, passed: u32, across: i64, back: i64, reverse: bool) -> Place
 // The flag is set where the voice may interrupt.
 #[tactic(auto, unfolding(crate::specs::Address::raised))]
 fn raise(cr: u32) -> u32
-    requires { cr < 65536 }
-    ensures { (result ≡ raised cr) × (result < 65536) }
+    ensures { result ≡ raised cr }
 {
     if control::flag(control::IRQE, cr) {
-        control::with_bit(control::IRQ, true, cr)
+        control::put(control::IRQ, true, cr)
     } else {
         cr
     }

@@ -1,60 +1,36 @@
--- Numbers in decimal: the fewest digits that hold a number are its decimal, in any number of digits that is enough; and how long a
--- decimal is. Assumes nothing.
-use mathlib.Core.Path.{◌≡◌}
+-- Numbers in decimal: what `{}` writes of a number is its decimal, in any number of digits that is enough; and how long a decimal is.
+-- Assumes nothing.
+use mathlib.Core.Path.{◌≡◌, ap, ◌∙◌}
 use mathlib.Core.List.{List, [], ◌∷◌, ◌++◌}
-use Prim.Native.Nat.{ℕ, zero, suc, ◌+◌, ◌-◌, ◌/◌, ◌%◌, ◌^◌, ◌<◌, ◌≤◌}
-use native.Mathlib.Nat.{pow-suc, pow-le-pow_right, mod-eq_of_lt, mod-lt}
+use Prim.Native.Nat.{ℕ, zero, suc, ◌+◌, ◌/◌, ◌%◌, ◌^◌, ◌<◌, ◌≤◌}
+use native.Mathlib.Nat.{pow-suc}
 use native.Mathlib.Omega.{arith}
 use borrow.Author.Tests.{lt-ltb, le-ltb, ltb-false}
 use lib.Dec.{ltb}
 use lib.IntN.{ℤ, pos, negsuc, nat_abs}
 use lib.ListN.{length, length-append}
-use Rattle.io.specs.Digits.{last_digits, IsDigitCount}
+use Rattle.std.specs.Fmt.{signed_decimal}
+use Rattle.std.specs.Fmt as fmt
+use Rattle.std.proofs.lemmas.Fmt.{decimal_digit, decimal_step}
 use Rattle.numbers.proofs.Tests.{either, cases}
 use Rattle.chart.specs.Chart.{decimal_in, number}
-
--- 10 ^ i ≤ 10 ^ j, at exponents that stand in a goal
-power_le : (i j : ℕ) → i ≤ j → 10 ^ i ≤ 10 ^ j
-power_le i j h = pow-le-pow_right (omega arith) h
-
--- where n takes more than one digit, n / 10 takes one less
-tenth : (r n : ℕ) → IsDigitCount 10 1 n (suc (suc r)) → (10 ≤ n) × IsDigitCount 10 1 (n / 10) (suc r)
-tenth r n f =
-    let two : suc (suc r) - 1 ≡ suc r = omega arith in
-    let one : suc r - 1 ≡ r = omega arith in
-    let up : 10 ^ suc r ≤ n = rw two at (f.2 (omega arith)) in (
-      omega (arith, power_le 1 (suc r) (omega arith)),
-      (
-        omega arith,
-        omega (arith, pow-suc 10 (suc r), f.1),
-        λ l. rw one (omega (arith, pow-suc 10 r, up)),
-      ),
-    )
-
--- no more digits are taken than are enough
-few : (k r n : ℕ) → 0 < k → n < 10 ^ k → IsDigitCount 10 1 n r → r ≤ k
-few k r n p h f = cases k r (r ≤ k)
-    (λ l. absurd (let z : ⊥ = omega (arith, power_le k (r - 1) (omega arith), f.2 (omega arith)) in z))
-    (λ l. l)
-
-digits_in : (k r n : ℕ) → r ≤ k → IsDigitCount 10 1 n r → last_digits 10 r n ≡ decimal_in k n
-unfolding decimal_in
-digits_in k zero n h f = absurd (let z : ⊥ = omega arith in z)
-digits_in zero (suc r) n h f = absurd (let z : ⊥ = omega arith in z)
-digits_in (suc k) (suc zero) n h f =
-    let l : n < 10 = f.1 in
-    rw (mod-eq_of_lt l, lt-ltb n 10 l)
-digits_in (suc k) (suc (suc r)) n h f =
-    let t = tenth r n f in
-    rw (le-ltb n 10 t.0, lt-ltb (n % 10) 10 (mod-lt n (omega arith)), ← digits_in k (suc r) (n / 10) (omega arith) t.1)
-
-pub decimal_digits : (k r n : ℕ) → 0 < k → n < 10 ^ k → IsDigitCount 10 1 n r → last_digits 10 r n ≡ decimal_in k n
-decimal_digits k r n p h f = digits_in k r n (few k r n p h f) f
 
 -- a number of more than one digit has one digit more than its tenth
 shorter : (j n : ℕ) → 10 ≤ n → n < 10 ^ suc j → (0 < j) × (n / 10 < 10 ^ j)
 shorter zero n l h = absurd (let z : ⊥ = omega arith in z)
 shorter (suc j) n l h = (omega arith, omega (arith, pow-suc 10 (suc j)))
+
+pub decimal_is : (k n : ℕ) → 0 < k → n < 10 ^ k → n < 2 ^ 64 → fmt.decimal n ≡ decimal_in k n
+unfolding decimal_in
+decimal_is zero n p h l = absurd (let z : ⊥ = omega arith in z)
+decimal_is (suc k) n p h l = cases n 10 (fmt.decimal n ≡ decimal_in (suc k) n)
+    (λ a. rw (lt-ltb n 10 a) (decimal_digit n a))
+    (λ a. let s = shorter k n a h in
+    rw (le-ltb n 10 a) (decimal_step n a l ∙ ap (λ (xs : List ℕ). xs ++ (48 + n % 10) ∷ []) (decimal_is k (n / 10) s.0 s.1 (omega arith))))
+
+pub number_is : (z : ℤ) → nat_abs z < 100000 → signed_decimal z ≡ number z
+number_is (pos n) h = decimal_is 5 n (omega arith) (omega arith) (omega arith)
+number_is (negsuc n) h = ap (λ (xs : List ℕ). 45 ∷ xs) (decimal_is 5 (suc n) (omega arith) (omega arith) (omega arith))
 
 -- a number below 10 ^ j has at most j digits
 pub decimal-length : (k j n : ℕ) → 0 < j → n < 10 ^ j → length (decimal_in k n) ≤ j

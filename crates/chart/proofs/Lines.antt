@@ -10,6 +10,7 @@ use lib.IntN.{ℤ, pos, negsuc}
 use lib.ListN.{length, get_or, take, length-append}
 use lib.Seq.{take-suc, take_all, length-take-le}
 use lib.Signed.{◌≤ℤ◌}
+use Rattle.std.specs.Simd.{first_chunks}
 use Rattle.numbers.specs.Numbers.{minus, signed, Bits}
 use Rattle.numbers.proofs.Within.{of_bits, of_sfits}
 use Rattle.numbers.proofs.Words.{signed-bits}
@@ -68,6 +69,23 @@ lines-length (a ∷ []) h = omega arith
 lines-length (a ∷ b ∷ xs) h =
     let s = signed-bits 16 (256 * a + b) (omega arith) (omega (arith, h 0, h 1)) in
     simp length-append (omega (arith, line-length (signed 16 (256 * a + b)) s, lines-length xs (λ i. h (suc (suc i)))))
+
+-- the bytes of pair i
+pub pair_at : (i n : ℕ) (xs : List ℕ) → i < n
+    → (get_or (get_or (first_chunks 2 n xs) i []) 0 0 ≡ get_or xs (2 * i) 0) × (get_or (get_or (first_chunks 2 n xs) i []) 1 0 ≡ get_or xs (2 * i + 1) 0)
+pair_at i zero xs h = absurd (let z : ⊥ = omega arith in z)
+pair_at zero (suc n) [] h = (refl, refl)
+pair_at zero (suc n) (a ∷ []) h = (refl, refl)
+pair_at zero (suc n) (a ∷ b ∷ xs) h = (refl, refl)
+pair_at (suc i) (suc n) [] h = pair_at i n [] (omega arith)
+pair_at (suc i) (suc n) (a ∷ []) h =
+    let two : 2 * suc i ≡ suc (suc (2 * i)) = omega arith in
+    let three : 2 * suc i + 1 ≡ suc (suc (2 * i + 1)) = omega arith in
+    rw (three, two) (pair_at i n [] (omega arith))
+pair_at (suc i) (suc n) (a ∷ b ∷ xs) h =
+    let two : 2 * suc i ≡ suc (suc (2 * i)) = omega arith in
+    let three : 2 * suc i + 1 ≡ suc (suc (2 * i + 1)) = omega arith in
+    rw (three, two) (pair_at i n xs (omega arith))
 
 lines-append : (k : ℕ) (xs ys : List ℕ) → length xs ≡ 2 * k → lines (xs ++ ys) ≡ lines xs ++ lines ys
 unfolding lines

@@ -1,13 +1,12 @@
 -- Bytes stored from a place on. First as lists: two runs of stores, the second where the first ended, are one. Then as promises,
--- `Stored`: that law; the length and the room that are left; and one byte more of a text. Assumes nothing.
-use mathlib.Core.Path.{◌≡◌, refl, sym, ap, ap₂, subst, ◌∙◌}
+-- `Stored`: that law; and the length and the room that are left. Assumes nothing.
+use mathlib.Core.Path.{◌≡◌, sym, ap, ap₂, subst, ◌∙◌}
 use mathlib.Core.List.{List, [], ◌∷◌, ◌++◌}
-use Prim.Native.Nat.{ℕ, suc, ◌+◌, ◌<◌, ◌≤◌}
+use Prim.Native.Nat.{ℕ, suc, ◌+◌, ◌≤◌}
 use native.Mathlib.Nat.{add-zero, add-suc, suc-add}
-use native.Mathlib.Numerals.{add-one}
 use native.Mathlib.Omega.{arith}
-use lib.ListN.{length, get_or, set, take, length-append}
-use lib.Seq.{sets, take-suc, length-sets}
+use lib.ListN.{length, set, length-append}
+use lib.Seq.{sets, length-sets}
 use Rattle.chart.specs.Chart.{Stored}
 
 sets_append : (l : List ℕ) (a : ℕ) (xs ys : List ℕ) → sets (sets l a xs) (a + length xs) ys ≡ sets l a (xs ++ ys)
@@ -32,10 +31,3 @@ module _ {out out' : List ℕ} {at r : ℕ} {xs : List ℕ} where
   -- of n bytes from `at` on, those that the text does not take are left
   pub room : Stored out at xs out' r → (n k : ℕ) → length xs + k ≤ n → at + n ≤ length out → r + k ≤ length out'
   room s n k h l = omega (arith, kept s)
-
--- one byte more
-pub more : {out out' : List ℕ} {at i : ℕ} (text : List ℕ) → i < length text → Stored out at (take i text) out' (at + i)
-    → Stored out at (take (i + 1) text) (set out' (at + i) (get_or text i 0)) (at + (i + 1))
-more {out'} {at} {i} text h s =
-    reads_as (sym (take-suc text i 0 h) ∙ ap (λ (k : ℕ). take k text) (sym (add-one i)))
-    (then s (record { after = omega arith; stored = refl }))

@@ -1,12 +1,10 @@
 -- The code chart: the bytes of the text that the chart program writes for the bytes of its input, in ASCII.
 -- In order: a number in decimal; the line of a sample; the lines of an input; the chart; what a call that is lent an output
 -- answers and leaves there; and what the steps on the way promise each other. Assumes nothing.
-use Rattle.std.specs.Prelude.{ℕ, zero, suc, ◌+◌, ◌*◌, ◌/◌, ◌%◌, ◌≡◌, cond, List, [], ◌∷◌, ◌++◌, ltb, ℤ, pos, negsuc, length, drop}
+use Rattle.std.specs.Prelude.{ℕ, zero, suc, ◌+◌, ◌*◌, ◌/◌, ◌%◌, ◌≡◌, cond, List, [], ◌∷◌, ◌++◌, ltb, ℤ, pos, negsuc, length, drop, Option, None, Some}
 use Rattle.std.proofs.lemmas.List.Edits.{sets}
 use Rattle.numbers.specs.Numbers.{signed}
 use Rattle.codes.specs.Codes.{value_of, code_of}
-use Rattle.chart.specs.declared.Charted.{Charted}
-use Rattle.chart.specs.declared.Charted.TheVariants.{Written, NoRoom}
 
 -- n in decimal with no zeros in front, in at most k digits: the digits of n / 10, where that is not 0, and then the last
 unfoldable pub decimal_in : ℕ → ℕ → List ℕ
@@ -46,9 +44,9 @@ chart_of input = cond (ltb 65536 (length input)) too_long (lines input)
 -- ---- a call that is lent an output
 
 -- The output must have nine bytes for each byte of input, which hold any chart: the longest line of a pair has 18, and that of
--- an odd byte 9. Otherwise the call says so, and leaves the output as it was.
-unfoldable pub chart_answer : List ℕ → List ℕ → Charted
-chart_answer input out = cond (ltb (length out) (9 * length input)) NoRoom (Written (length (chart_of input)))
+-- an odd byte 9. Otherwise the call answers none, and leaves the output as it was.
+unfoldable pub chart_answer : List ℕ → List ℕ → Option ℕ
+chart_answer input out = cond (ltb (length out) (9 * length input)) None (Some (length (chart_of input)))
 
 -- the output afterwards: the chart, and past it what stood there
 unfoldable pub chart_output : List ℕ → List ℕ → List ℕ

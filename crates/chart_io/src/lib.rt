@@ -1,5 +1,5 @@
-//! The code chart program, but for its `main`: reads an input and writes its chart. One byte more
-//! than a chart takes is read, so that a longer input is seen.
+//! The code chart programs, but for their `main`: reads an input and writes its chart. One byte
+//! more than a chart takes is read, so that a longer input is seen.
 #![tactic(auto)]
 
 ghost use Rattle.std.specs.Prelude.{◌≡◌, ◌≤◌, length, IfSome, OnOk, OnErr};
@@ -7,9 +7,15 @@ ghost use Rattle.std.specs.Io.KnownBytes.{Appends, IsAtEnd};
 ghost use Rattle.streams.specs.Parts.{AppendsPart, ConsumesSome};
 ghost use Rattle.chart.specs.Chart.{chart_of};
 
-use chart::Charted;
 use std::io;
 use std::io::{Input, Print, Read, Write};
+
+// A byte more than a chart takes, and nine bytes for each, in which any chart has room. Both lie on
+// the stack: `write_chart` is lent a reader and a writer and no allocator, and succeeds where both
+// do.
+const MOST_READ: usize = 65537;
+
+const MOST_WRITTEN: usize = 589833;
 
 /// The chart of standard input, to standard output. Its error is that of a read or a write there. A
 /// read that fails leaves nothing written; a write that fails leaves a part of the chart, from its
@@ -30,28 +36,21 @@ pub fn write_chart<R: Read, W: Write>(reader: &mut R, writer: &mut W) -> io::Res
     ensures err { OnErr result (IfSome (R.remaining reader.old) (λ input.
         AppendsPart (W.contents writer.old) (W.contents writer.new) (chart_of input))) }
 {
-    let mut input = buffer();
+    let mut input = zeros::<MOST_READ>();
     let n = streams::read_full(reader, &mut input)?;
-    let mut out = space();
-    if let Charted::Written(k) = chart::chart(&input[..n], &mut out) {
+    let mut out = zeros::<MOST_WRITTEN>();
+    if let Some(k) = chart::chart(&input[..n], &mut out) {
         streams::write_full(writer, &out[..k])?;
     }
     Ok(())
 }
 
-// Room for one byte more than a chart takes. A function of its own, so that the proof of
-// `write_chart` has the length and not the list.
-fn buffer() -> [u8; 65537]
-    ensures { 65537 ≡ length result }
+// So many zeros. A function of its own, so that the proof of `write_chart` has the length and not
+// the list.
+fn zeros<const N: usize>() -> [u8; N]
+    ensures { N ≡ length result }
 {
-    [0; 65537]
-}
-
-// Nine zeros for each byte of input, likewise.
-fn space() -> [u8; 589833]
-    ensures { 589833 ≡ length result }
-{
-    [0; 589833]
+    [0; N]
 }
 
 #[cfg(test)]

@@ -11,7 +11,8 @@ use std::io;
 use std::io::{ErrorKind, Read, Write};
 
 /// Reads until the buffer is full or the input ends, and answers how many bytes stand at the
-/// buffer's start.
+/// buffer's start. (The standard `read_exact` fails where the input ends before, and does not say
+/// what an error leaves.)
 pub fn read_full<R: Read>(reader: &mut R, buffer: &mut [u8]) -> io::Result<usize>
     ensures bound { IfOk result (λ n. n ≤ length buffer.new) }
     ensures bytes { IfOk result (λ n.
@@ -20,6 +21,8 @@ pub fn read_full<R: Read>(reader: &mut R, buffer: &mut [u8]) -> io::Result<usize
     ensures err { OnErr result
         (ConsumesPart (R.remaining reader.old) (R.remaining reader.new) buffer.new) }
 {
+    // Each turn goes on by as much as the reader gave: no range or iterator knows how far. The same
+    // of a writer.
     let mut at = 0;
     while at < buffer.len() {
         let n = reader.read(&mut buffer[at..])?;

@@ -8,27 +8,22 @@ use Rattle.address.proofs.event.Goals as goal
 
 pub returns-in-Stop : goal.returns-in-Stop
 unfolding left_by
-returns-in-Stop c =
-    (same_place refl (c.with_bit.ensures.0 ∙ ap (with_bit STP0 1) c.raise-up.ensures.0) ∙ left_in _ _ _ _ _ c.in-Stop.is c.loop_mode.ensures, c.with_bit.ensures.1)
+returns-in-Stop c = same_place refl (c.put.ensures ∙ ap (with_bit STP0 1) c.raise-up.ensures) ∙ left_in _ _ _ _ _ c.in-Stop.is c.loop_mode.ensures
 
 pub returns-in-Loop : goal.returns-in-Loop
 unfolding left_by
 returns-in-Loop c =
-    (same_place (c.wrap.ensures ∙ ap (word 32) (to_z-of_z c.ranges.across)) c.raise-up.ensures.0 ∙ left_in _ _ _ _ _ c.in-Loop.is c.loop_mode.ensures, c.raise-up.ensures.1)
+    same_place (c.wrap.ensures ∙ ap (word 32) (to_z-of_z c.ranges.across)) c.raise-up.ensures ∙ left_in _ _ _ _ _ c.in-Loop.is c.loop_mode.ensures
 
 pub returns-in-Once : goal.returns-in-Once
 unfolding left_by
-returns-in-Once c = (
-  same_place (c.wrap-in-Once.ensures ∙ ap (word 32) (to_z-of_z c.ranges.across))
-      (c.with_bit-in-Once.ensures.0 ∙ ap (with_bit LEI 1) (c.with_bit-once.ensures.0 ∙ ap (with_bit BLE 0) c.raise-up.ensures.0))
-      ∙ left_in _ _ _ _ _ c.in-Once.is c.loop_mode.ensures,
-  c.with_bit-in-Once.ensures.1,
-)
+returns-in-Once c =
+    same_place (c.wrap-in-Once.ensures ∙ ap (word 32) (to_z-of_z c.ranges.across))
+    (c.put-in-Once.ensures ∙ ap (with_bit LEI 1) (c.put-once.ensures ∙ ap (with_bit BLE 0) c.raise-up.ensures))
+    ∙ left_in _ _ _ _ _ c.in-Once.is c.loop_mode.ensures
 
 pub returns-in-Turn : goal.returns-in-Turn
 unfolding left_by
-returns-in-Turn c = (
-  same_place (c.wrap-in-Turn.ensures ∙ ap (word 32) (to_z-of_z c.ranges.back)) (c.with_bit-in-Turn.ensures.0 ∙ ap (with_bit DIR _) c.raise-up.ensures.0)
-      ∙ left_in _ _ _ _ _ c.in-Turn.is c.loop_mode.ensures,
-  c.with_bit-in-Turn.ensures.1,
-)
+returns-in-Turn c =
+    same_place (c.wrap-in-Turn.ensures ∙ ap (word 32) (to_z-of_z c.ranges.back)) (c.put-in-Turn.ensures ∙ ap (with_bit DIR _) c.raise-up.ensures)
+    ∙ left_in _ _ _ _ _ c.in-Turn.is c.loop_mode.ensures

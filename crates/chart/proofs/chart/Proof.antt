@@ -9,8 +9,8 @@ use borrow.Author.Rules.{rules}
 use borrow.Author.Tests.{lt-ltb, le-ltb}
 use lib.ListN.{length, drop}
 use lib.Seq.{sets-eq}
-use Rattle.chart.specs.declared.Charted.{Charted}
-use Rattle.chart.specs.declared.Charted.TheVariants.{Written, NoRoom}
+use Rattle.std.specs.declared.option.Option.{Option}
+use Rattle.std.specs.declared.option.Option.TheVariants.{Some, None}
 use Rattle.chart.specs.Chart.{too_long, lines, chart_of, chart_answer, chart_output, Stored}
 use Rattle.chart.proofs.Lines.{Bytes, lines-length}
 use Rattle.chart.proofs.chart.Statement.{statement}
@@ -29,31 +29,31 @@ lines_chart input h = rw (le-ltb 65536 (length input) h)
 -- ---- what the call answers, and leaves in the output
 
 module _ (input out : List ℕ) where
-  abbrev IsMet : Charted → List ℕ → Type 0
+  abbrev IsMet : Option ℕ → List ℕ → Type 0
   IsMet answer out' = (answer ≡ chart_answer input out) × (out' ≡ chart_output input out)
 
-  no_room : length out < 9 * length input → IsMet NoRoom out
+  no_room : length out < 9 * length input → IsMet None out
   unfolding chart_answer chart_output
   no_room h = rw (lt-ltb (length out) (9 * length input) h) (refl, refl)
 
   module _ {out' : List ℕ} {r : ℕ} (h : 9 * length input ≤ length out) where
     -- the text t is the chart, and fits
     written : {t : List ℕ} → chart_of input ≡ t → length t ≤ 9 * length input
-        → Stored out 0 t out' r → IsMet (Written r) out'
+        → Stored out 0 t out' r → IsMet (Some r) out'
     unfolding chart_answer chart_output
     written {t} e k s =
         rw (le-ltb (length out) (9 * length input) h, e) (
-          ap Written (s.after ∙ zero-add (length t)),
+          ap Some (s.after ∙ zero-add (length t)),
           s.stored
               ∙ sets-eq t out 0 (omega arith)
               ∙ ap (λ (n : ℕ). t ++ drop n out) (zero-add (length t)),
         )
 
-    too_long_written : 65536 < length input → Stored out 0 too_long out' r → IsMet (Written r) out'
+    too_long_written : 65536 < length input → Stored out 0 too_long out' r → IsMet (Some r) out'
     too_long_written l s = written (too_long_chart input l) (omega arith) s
 
     lines_written : length input ≤ 65536 → Bytes input → Stored out 0 (lines input) out' r
-        → IsMet (Written r) out'
+        → IsMet (Some r) out'
     lines_written l b s = written (lines_chart input l) (lines-length input b) s
 
 -- no test is named, so that an edit of one is refused for its fact

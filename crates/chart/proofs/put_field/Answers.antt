@@ -1,15 +1,11 @@
--- A number takes at most six bytes, and its end stands after it. Assumes nothing.
-use Rattle.std.proofs.Common.{◌++◌, length, ap, arith, ℤ}
+-- What is printed of a number is its decimal, and its end stands after it.
+use Rattle.std.proofs.Common.{◌∙◌, ap, arith}
 use mir.Facts.{to_z-of_z}
-use Rattle.chart.specs.Chart.{number}
-use Rattle.chart.proofs.Decimals.{number-length}
+use Rattle.std.specs.Fmt.{signed_decimal}
+use Rattle.numbers.proofs.Within.{of_sfits}
+use Rattle.chart.proofs.Decimals.{number_is}
 use Rattle.chart.proofs.Stores.{then, reads_as}
 use Rattle.chart.proofs.put_field.Goals as goal
 
-pub put-requires : goal.put-requires
-put-requires c =
-    omega (arith, number-length 5 c.args.z (omega arith) (omega arith), ap (λ (z : ℤ). length (number z)) (to_z-of_z c.ranges.z))
-
 pub returns : goal.returns
-returns c =
-    reads_as (ap (λ (z : ℤ). number z ++ c.args.end.now) (to_z-of_z c.ranges.z)) (then c.put_number-digits.ensures c.put.ensures)
+returns c = then (reads_as (c.as_bytes.ensures.value ∙ c.format.ensures.text ∙ ap signed_decimal (to_z-of_z c.ranges.z) ∙ number_is c.args.z (omega (arith, of_sfits c.ranges.z))) c.put-after.ensures) c.put.ensures

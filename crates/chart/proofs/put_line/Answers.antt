@@ -1,78 +1,83 @@
 -- The sample, its code and the code's value are the numbers of the line, and each field leaves room for those after it.
--- Assumes nothing.
-use Rattle.std.proofs.Common.{◌≡◌, ◌∙◌, ◌+◌, ◌*◌, ◌<◌, ◌≤◌, ◌++◌, ℕ, ℤ, pos, List, length, sym, ap, subst, length-append, arith, FitsSigned, w16, w32, to_z, of_z}
+use Rattle.std.proofs.Common.{◌≡◌, ◌∙◌, ◌+◌, ◌*◌, ◌-◌, ◌<◌, ◌≤◌, ◌++◌, ℕ, suc, ℤ, pos, List, length, sym, ap, subst, length-append, arith, w16, to_z, of_z}
 use lib.Signed.{mag}
-use mir.Facts.{to_z-of_z}
+use borrow.Author.Tests.{lt-ltb, le-ltb}
 use Rattle.numbers.specs.Numbers.{signed, Bits}
-use Rattle.numbers.proofs.Within.{of_bits, of_sfits}
-use Rattle.numbers.proofs.Words.{signed-bits}
-use Rattle.numbers.proofs.Local.{Num, Done, ret, nat, cast, within}
+use Rattle.numbers.proofs.Tests.{cases}
+use Rattle.numbers.proofs.Difference.{is_neg}
+use Rattle.numbers.proofs.Words.{pos-sub, signed-bits}
+use Rattle.numbers.proofs.Local.{back}
 use Rattle.codes.specs.Codes.{value_of, code_of, Compressed}
 use Rattle.codes.proofs.Samples.{compressed_is}
-use Rattle.codes.proofs.Range.{value_fits}
 use Rattle.chart.specs.Chart.{Stored}
 use Rattle.chart.proofs.Stores.{then, reads_as, room}
-use Rattle.chart.proofs.Lines.{sample_low, sample_length, code_small, code_length, field, line_fields}
+use Rattle.chart.proofs.Lines.{sample_low, sample_length, code_length, field, line_fields}
 use Rattle.chart.proofs.put_line.Goals as goal
 
--- ---- the numbers, for a sample s of 16 bits: what `number_of`, `compress` and `expand` answer
+-- the number of 16 bits, as `i16` has it
+sixteen : (n : ℕ) → n < 65536 → to_z w16 n ≡ signed 16 n
+unfolding signed
+sixteen n h = cases n 32768 (to_z w16 n ≡ signed 16 n)
+    (λ l. rw (lt-ltb n 32768 l))
+    (λ l. rw (le-ltb n 32768 l) (sym (pos-sub n 65536 ∙ is_neg n 65536 (65536 - suc n) (omega arith))))
 
-module _ {s : ℤ} (b : Bits 16 s) where
-  sample : {v : ℤ} → mag v < 2147483648 → v ≡ s → Num w32 32768 s (to_z w32 (of_z w32 v))
-  sample f e = ret w32 f e (of_bits b)
+module _ {high low : ℕ} (h : high < 256) (l : low < 256) where
+  abbrev sample : ℤ
+  sample = signed 16 (256 * high + low)
 
-  sample_fits : {v : ℤ} → mag v < 2147483648 → v ≡ s → FitsSigned w16 (to_z w32 (of_z w32 v))
-  sample_fits f e = subst (FitsSigned w16) (sym (sample f e).is) (record { sfits = b.bits })
+  bits : Bits 16 sample
+  bits = signed-bits 16 (256 * high + low) (omega arith) (omega arith)
 
-  code : {v : ℤ} {k : ℕ} → mag v < 2147483648 → v ≡ s → Compressed (to_z w16 (of_z w16 (to_z w32 (of_z w32 v)))) k → k ≡ code_of s
-  code {k} f e h = compressed_is (sample_low s b) (subst (λ (z : ℤ). Compressed z k) (to_z-of_z (sample_fits f e) ∙ (sample f e).is) h)
+  -- ---- the numbers: of the bytes; of its code; of the code's value
 
-  code_num : {k : ℕ} → k ≡ code_of s → k < 256 → Num w32 255 (pos (code_of s)) (to_z w32 k)
-  code_num {k} e h = subst (λ (n : ℕ). Num w32 255 (pos n) (to_z w32 k)) e (nat w32 255 k tt (omega arith))
+  first : {v : ℤ} → mag v < 32768 → v ≡ to_z w16 (high * 256 + low) → to_z w16 (of_z w16 v) ≡ sample
+  first f e =
+      let turned : high * 256 + low ≡ 256 * high + low = omega arith in
+      back w16 f ∙ e ∙ ap (to_z w16) turned ∙ sixteen (256 * high + low) (omega arith)
 
-  value : {k : ℕ} {v : ℤ} → k ≡ code_of s → mag v < 32768 → v ≡ value_of k → Done w32 32768 (value_of (code_of s)) (to_z w16 (of_z w16 v))
-  value e f h = cast (ret w16 f (h ∙ ap value_of e) (of_sfits (value_fits (code_of s) (code_small s b)))) tt
+  code : {v : ℤ} {k : ℕ} → v ≡ sample → Compressed v k → k ≡ code_of sample
+  code {k} e s = compressed_is (sample_low sample bits) (subst (λ (z : ℤ). Compressed z k) e s)
 
-  -- ---- the fields
+  second : {v : ℤ} {k : ℕ} → k ≡ code_of sample → mag v < 32768 → v ≡ pos k → to_z w16 (of_z w16 v) ≡ pos (code_of sample)
+  second k f e = back w16 f ∙ e ∙ ap pos k
 
-  one : {out out' : List ℕ} {at r : ℕ} {z : ℤ} → Num w32 32768 s z → Stored out at (field z 32) out' r → Stored out at (field s 32) out' r
-  one a h = reads_as (ap (λ (z : ℤ). field z 32) a.is) h
+  third : {v : ℤ} {k : ℕ} → k ≡ code_of sample → mag v < 32768 → v ≡ value_of k → to_z w16 (of_z w16 v) ≡ value_of (code_of sample)
+  third k f e = back w16 f ∙ e ∙ ap value_of k
 
-  one_room : {out out' : List ℕ} {at r : ℕ} → Stored out at (field s 32) out' r → at + 18 ≤ length out → r + 7 ≤ length out'
-  one_room h l = room h 18 7 (simp length-append (omega (arith, sample_length s b))) l
+  -- ---- the room after one of them, and after two
 
-  two_room : {out out' : List ℕ} {at r : ℕ} → Stored out at (field s 32 ++ field (pos (code_of s)) 32) out' r → at + 18 ≤ length out → r + 7 ≤ length out'
-  two_room h l = room h 18 7 (simp length-append (omega (arith, sample_length s b, code_length s b))) l
+  after_one : {out out' : List ℕ} {at r : ℕ} → Stored out at (field sample 32) out' r → at + 18 ≤ length out → r + 7 ≤ length out'
+  after_one s fits = room s 18 7 (simp length-append (omega (arith, sample_length sample bits))) fits
 
-pub overflow_cast-sample : goal.overflow_cast-sample
-overflow_cast-sample c =
-    let b : Bits 16 (signed 16 (256 * c.args.high + c.args.low)) = signed-bits 16 (256 * c.args.high + c.args.low) (omega arith) (omega arith) in
-    sample_fits b c.number_of-sample.type_inv c.number_of-sample.ensures
+  after_two : {out out' : List ℕ} {at r : ℕ} → Stored out at (field sample 32 ++ field (pos (code_of sample)) 32) out' r → at + 18 ≤ length out → r + 7 ≤ length out'
+  after_two s fits = room s 18 7 (simp length-append (omega (arith, sample_length sample bits, code_length sample bits))) fits
 
-pub put_field-a-requires-clause-within : goal.put_field-a-requires-clause-within
-put_field-a-requires-clause-within c =
-    let b : Bits 16 (signed 16 (256 * c.args.high + c.args.low)) = signed-bits 16 (256 * c.args.high + c.args.low) (omega arith) (omega arith) in
-    within tt (sample b c.number_of-sample.type_inv c.number_of-sample.ensures)
+-- a field of one number is that of an equal one
+of : {out out' : List ℕ} {at r : ℕ} {y z : ℤ} (end : ℕ) → y ≡ z → Stored out at (field y end) out' r → Stored out at (field z end) out' r
+of end e s = reads_as (ap (λ (z : ℤ). field z end) e) s
 
-pub put_field-b-requires-clause-end_in_bounds : goal.put_field-b-requires-clause-end_in_bounds
-put_field-b-requires-clause-end_in_bounds c =
-    let b : Bits 16 (signed 16 (256 * c.args.high + c.args.low)) = signed-bits 16 (256 * c.args.high + c.args.low) (omega arith) (omega arith) in
-    let a = one b (sample b c.number_of-sample.type_inv c.number_of-sample.ensures) c.put_field-a.ensures in
-    omega (arith, one_room b a c.requires)
+pub put_field-at_value-requires : goal.put_field-at_value-requires
+put_field-at_value-requires c =
+    let high : c.args.high < 256 = omega arith in
+    let low : c.args.low < 256 = omega arith in
+    let e = first high low c.from_be_bytes-sample.type_inv c.from_be_bytes-sample.ensures in
+    omega (arith, after_one high low (of 32 e c.put_field-at_code.ensures) c.requires)
 
-pub put_field-requires-clause-end_in_bounds : goal.put_field-requires-clause-end_in_bounds
-put_field-requires-clause-end_in_bounds c =
-    let b : Bits 16 (signed 16 (256 * c.args.high + c.args.low)) = signed-bits 16 (256 * c.args.high + c.args.low) (omega arith) (omega arith) in
-    let a = one b (sample b c.number_of-sample.type_inv c.number_of-sample.ensures) c.put_field-a.ensures in
-    let k = code b c.number_of-sample.type_inv c.number_of-sample.ensures c.compress-code.ensures in
-    let t = then a (reads_as (ap (λ (z : ℤ). field z 32) (code_num b k c.compress-code.type_inv).is) c.put_field-b.ensures) in
-    omega (arith, two_room b t c.requires)
+pub put_field-requires : goal.put_field-requires
+put_field-requires c =
+    let high : c.args.high < 256 = omega arith in
+    let low : c.args.low < 256 = omega arith in
+    let e = first high low c.from_be_bytes-sample.type_inv c.from_be_bytes-sample.ensures in
+    let f = second high low (code high low e c.compress-code.ensures) c.from.type_inv c.from.ensures in
+    omega (arith, after_two high low (then (of 32 e c.put_field-at_code.ensures) (of 32 f c.put_field-at_value.ensures)) c.requires)
 
 pub returns : goal.returns
 returns c =
-    let b : Bits 16 (signed 16 (256 * c.args.high + c.args.low)) = signed-bits 16 (256 * c.args.high + c.args.low) (omega arith) (omega arith) in
-    let a = one b (sample b c.number_of-sample.type_inv c.number_of-sample.ensures) c.put_field-a.ensures in
-    let k = code b c.number_of-sample.type_inv c.number_of-sample.ensures c.compress-code.ensures in
-    let t = then a (reads_as (ap (λ (z : ℤ). field z 32) (code_num b k c.compress-code.type_inv).is) c.put_field-b.ensures) in
+    let high : c.args.high < 256 = omega arith in
+    let low : c.args.low < 256 = omega arith in
+    let e = first high low c.from_be_bytes-sample.type_inv c.from_be_bytes-sample.ensures in
+    let k = code high low e c.compress-code.ensures in
+    let f = second high low k c.from.type_inv c.from.ensures in
+    let g = third high low k c.expand.type_inv c.expand.ensures in
     reads_as (line_fields (signed 16 (256 * c.args.high + c.args.low)))
-    (then t (reads_as (ap (λ (z : ℤ). field z 10) (value b k c.expand.type_inv c.expand.ensures).num.is) c.put_field.ensures))
+    (then (then (of 32 e c.put_field-at_code.ensures) (of 32 f c.put_field-at_value.ensures)) (of 10 g c.put_field.ensures))
