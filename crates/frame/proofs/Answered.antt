@@ -1,25 +1,25 @@
 -- The frame call by its answer. In order: what a frame asks for, `Ready`; each refusal, and done, and back; the promise of a frame that is
 -- refused, of one with too few voices, and of one that is done; tightness. Assumes nothing.
-use Rattle.std.specs.Prelude.{Err}
-use mathlib.Core.Path.{◌≡◌, refl, sym, ap, ◌∙◌}
+use Rattle.std.specs.Prelude.{Result, Err}
+use mathlib.Core.Path.{◌≡◌, refl, sym, ap, subst, ◌∙◌}
 use mathlib.Core.Bool.{Bool, true, false, not}
 use mathlib.Core.List.{List, [], ◌∷◌}
 use Prim.Native.Nat.{ℕ, ◌<◌, ◌≤◌}
 use borrow.Author.Tests.{eq-eqb, ne_eqb, lt-ltb, le-ltb, eqb-true, ltb-false, not-false}
 use lib.Dec.{eqb, ltb}
 use lib.IntN.{ℤ}
-use lib.ListN.{length}
-use Rattle.answer.specs.Answer.{Answer, Done, is_done}
+use lib.ListN.{length, get_or}
+use Rattle.answer.specs.Answer.{Answer, Done, is_done, answer_of, value_or}
 use Rattle.answer.specs.declared.Refusal.{Refusal}
 use Rattle.answer.specs.declared.Refusal.TheVariants.{RecordLength, RecordInvalid, TooFewVoices, MemoryLength, OutputLength}
 use Rattle.answer.proofs.Refusals.{none_holds, refused_early}
-use Rattle.machine.specs.Words.{OUTPUT_VALUES, valid}
+use Rattle.machine.specs.Words.{ACTV, OUTPUT_VALUES, valid}
 use Rattle.machine.specs.Check.{wrong_length, not_valid, checked}
 use Rattle.machine.proofs.Valid.{Sound}
-use Rattle.machine.proofs.Answers.{sound_tests, tests_sound}
+use Rattle.machine.proofs.Answers.{sound_tests, tests_sound, not_refused}
 use Rattle.sample.specs.Sample.{MOST_MEMORY_WORDS}
 use Rattle.frame.specs.Missing.{missed_in}
-use Rattle.frame.specs.Frame.{played, closed, heard, too_few, frame_answer, frame_record, frame_output, frame_missing, Frames}
+use Rattle.frame.specs.Frame.{LEAST_ACTV, played, closed, heard, too_few, frame_answer, frame_record, frame_output, frame_missing, Frames}
 
 -- all that a frame asks of what it is lent
 pub record Ready (m memory : List ℕ) (out : List ℤ) : Type 0 where
@@ -50,6 +50,20 @@ module _ (m memory : List ℕ) (out : List ℤ) where
       let t = sound_tests m r.machine in
       rw (t.0, t.1, r.voices, le-ltb MOST_MEMORY_WORDS (length memory) r.samples, eq-eqb (length out) OUTPUT_VALUES r.values)
 
+  -- the same by the tests that the code makes of a record that is not refused
+  pub told_voices : checked m ≡ Done → get_or m ACTV 0 < LEAST_ACTV → frame_answer m memory out ≡ Err TooFewVoices
+  told_voices d k = refused_voices (not_refused m d) (lt-ltb (get_or m ACTV 0) LEAST_ACTV k)
+
+  module _ (d : checked m ≡ Done) (v : LEAST_ACTV ≤ get_or m ACTV 0) where
+    pub told_memory : MOST_MEMORY_WORDS < length memory → frame_answer m memory out ≡ Err MemoryLength
+    told_memory k = refused_memory (not_refused m d) (le-ltb (get_or m ACTV 0) LEAST_ACTV v) k
+
+    pub told_output : length memory ≤ MOST_MEMORY_WORDS → (length out ≡ OUTPUT_VALUES → ⊥) → frame_answer m memory out ≡ Err OutputLength
+    told_output k l = refused_output (not_refused m d) (le-ltb (get_or m ACTV 0) LEAST_ACTV v) k l
+
+    pub told_ready : length memory ≤ MOST_MEMORY_WORDS → length out ≡ OUTPUT_VALUES → frame_answer m memory out ≡ Done
+    told_ready k l = not_refused_frame (record { machine = not_refused m d; voices = le-ltb (get_or m ACTV 0) LEAST_ACTV v; samples = k; values = l })
+
   -- the tests of the voices, the memory and the output, which come after those of the record
   abbrev later : List (Bool × Refusal)
   later = (too_few m, TooFewVoices) ∷ (ltb MOST_MEMORY_WORDS (length memory), MemoryLength) ∷ (not (eqb (length out) OUTPUT_VALUES), OutputLength) ∷ []
@@ -58,11 +72,14 @@ module _ (m memory : List ℕ) (out : List ℤ) where
   unfolding frame_answer checked
   refused_record h = refused_early ((wrong_length m, RecordLength) ∷ (not_valid m, RecordInvalid) ∷ []) later h
 
+  pub told_record : (e : Refusal) → checked m ≡ Err e → frame_answer m memory out ≡ Err e
+  told_record e h = refused_record (ap is_done h) ∙ h
+
   -- and back: the frame is done, so no test held
   pub done_frame : frame_answer m memory out ≡ Done → Ready m memory out
   unfolding frame_answer
   done_frame e =
-      let n = (none_holds ((wrong_length m, RecordLength) ∷ (not_valid m, RecordInvalid) ∷ later) (refl, (refl, (refl, (refl, (refl, tt))))) (ap is_done e)).1 in
+      let n = (none_holds ((wrong_length m, RecordLength) ∷ (not_valid m, RecordInvalid) ∷ later) (ap is_done e)).1 in
       record {
         machine = tests_sound m n.0;
         voices = n.1.0;
@@ -74,9 +91,12 @@ module _ (m memory : List ℕ) (out : List ℤ) where
   unfolding frame_record frame_output frame_missing
   frames_refused a e h = let d : is_done (frame_answer m memory out) ≡ false = sym (ap is_done e) ∙ h in record { answers = e; misses = rw d; leaves = rw d; sounds = rw d }
 
+  pub frames_err : (r : Result ℕ Refusal) (e : Refusal) → r ≡ Err e → Err e ≡ frame_answer m memory out → Frames m memory out (answer_of r) (value_or 0 r) m out
+  frames_err r e p q = subst (λ (x : Result ℕ Refusal). Frames m memory out (answer_of x) (value_or 0 x) m out) (sym p) (frames_refused (Err e) q refl)
+
   -- a valid record of too few voices: 7, no word missing, and nothing changes, whatever memory and output are lent with it
-  pub frames_few : valid m ≡ true → too_few m ≡ true → Frames m memory out TooFewVoices 0 m out
-  frames_few v k = frames_refused TooFewVoices (sym (refused_voices (tests_sound m (ap not v)) k)) refl
+  pub frames_few : valid m ≡ true → too_few m ≡ true → Frames m memory out (Err TooFewVoices) 0 m out
+  frames_few v k = frames_refused (Err TooFewVoices) (sym (refused_voices (tests_sound m (ap not v)) k)) refl
 
   pub frames_done : (missing : ℕ) (after : List ℕ) (sound : List ℤ) → frame_answer m memory out ≡ Done
       → missing ≡ missed_in memory m → after ≡ closed (played memory m) → sound ≡ heard (played memory m) → Frames m memory out Done missing after sound

@@ -283,7 +283,7 @@ module _ (m : List ℕ) (s : Sound m) where
   silenced_word i h =
       get_or-append (take SUMS m) (replicate 12 0 ++ drop 12 (drop SUMS m)) 0 i (omega (arith, low_length)) ∙ get_or-take SUMS m i 0 h
 
-  silenced_sum : (i : ℕ) → i < 12 → get_or (silenced m) (SUMS + i) 0 ≡ 0
+  pub silenced_sum : (i : ℕ) → i < 12 → get_or (silenced m) (SUMS + i) 0 ≡ 0
   unfolding silenced
   silenced_sum i h =
       ap (λ (n : ℕ). get_or (silenced m) (n + i) 0) (sym low_length)
@@ -323,7 +323,7 @@ module _ (m : List ℕ) (s : Sound m) where
   unfolding closed next
   closed_sum i h = get_or-set_other (silenced m) SLOW (SUMS + i) next 0 (λ e. omega arith) ∙ silenced_sum i h
 
-  silenced_sound : Sound (silenced m)
+  pub silenced_sound : Sound (silenced m)
   unfolding cut
   silenced_sound = record {
     size = silenced_length;

@@ -1,7 +1,7 @@
 -- The parts of a turn by their tests, and the loops' laws: one held sum more, a word of the record after a sum. What they leave word by word
 -- is Leaves. Assumes nothing.
-use mathlib.Core.Path.{◌≡◌, refl, ap}
-use mathlib.Core.Bool.{true, false}
+use mathlib.Core.Path.{◌≡◌, refl, sym, ap, ◌∙◌}
+use mathlib.Core.Bool.{true, false, cond}
 use mathlib.Core.List.{List, [], ◌∷◌, ◌++◌, map, append-nil}
 use mathlib.Core.Logic.{◌≢◌}
 use Prim.Native.Nat.{ℕ, zero, suc, ◌+◌, ◌*◌, ◌<◌, ◌≤◌}
@@ -13,9 +13,10 @@ use lib.ListN.{length, get_or, set, take, drop, length-set, drop_of_length-le}
 use lib.Seq.{take_all, get_or-set_other}
 use Rattle.numbers.specs.Numbers.{word}
 use Rattle.numbers.proofs.Tests.{split}
-use Rattle.control.specs.Control.{flag_of, IRQ}
+use Rattle.control.specs.Control.{flag_of, with_bit, IRQ}
 use Rattle.channel.specs.Channel.{mixed}
-use Rattle.machine.specs.Words.{IRQV, SUMS}
+use Rattle.machine.specs.Words.{IRQV, SUMS, WAIT_MASK, waiting_voices, with_mask}
+use Rattle.machine.proofs.Mask.{masked_same}
 use Rattle.frame.specs.Frame.{added_to, added, signalled}
 
 -- ---- a channel
@@ -51,6 +52,11 @@ module _ (m : List ℕ) (v CR : ℕ) where
   pub signal_none : flag_of IRQ CR ≡ false → signalled m v CR ≡ m
   unfolding signalled
   signal_none f = rw f
+
+-- the mask was true already of a voice that does not wait
+pub signal_quiet : (m : List ℕ) (v CR : ℕ) → flag_of IRQ CR ≡ false
+    → waiting_voices m ≡ cond (flag_of IRQ CR) (with_bit v 1 (get_or m WAIT_MASK 0)) (get_or m WAIT_MASK 0) → signalled (with_mask m) v CR ≡ m
+signal_quiet m v CR f h = signal_none (with_mask m) v CR f ∙ masked_same m (sym (rw f at h))
 
 -- ---- loops
 

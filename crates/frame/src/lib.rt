@@ -10,6 +10,7 @@ ghost use Rattle.control.specs.Control.{flag_of, with_bit, IRQ};
 ghost use Rattle.channel.specs.Channel.{put_out};
 ghost use Rattle.machine.specs.Words.{RECORD_WORDS, VOICES, SLOW, SUMS, OUTPUT_VALUES, WAIT_MASK, waiting_voices, with_mask, valid};
 ghost use Rattle.voice.specs.Voice.{voice_of};
+ghost use Rattle.voice.specs.Takes.{as_addend};
 ghost use Rattle.voice.specs.Missed.{missed_by};
 ghost use Rattle.machine.specs.Voices.{voice_at};
 ghost use Rattle.answer.specs.Answer.{answer_of, value_or};
@@ -20,9 +21,13 @@ ghost use Rattle.frame.specs.Frame.{added_to, added, signalled, turn_at, played,
 use answer::Refusal;
 use machine::Machine;
 use sample::Samples;
+use voice::Addend;
 
 // The least ACTV that a frame takes: five active voices.
 const LEAST_ACTV: u32 = 4;
+
+// How many channels have sums.
+const CHANNELS: u32 = 6;
 
 /// One frame: twelve values in channel order, left before right. How many words of sample memory
 /// its running voices asked for and missed.
@@ -38,6 +43,7 @@ pub fn frame(m: &mut [u32], memory: &[u16], out: &mut [i32]) -> Result<u32, Refu
 
 // Why a frame is refused: the record asked first, then how many voices it has active, the memory,
 // and the output.
+#[tactic(auto, using(crate::proofs::Answered::told_voices, crate::proofs::Answered::told_memory, crate::proofs::Answered::told_output, crate::proofs::Answered::told_ready))]
 fn check_frame(m: &[u32], memory: &[u16], out: &[i32]) -> Result<(), Refusal>
     ensures { result ≡ frame_answer m.now memory.now out.now }
 {
@@ -81,22 +87,31 @@ fn turn(m: &mut [u32], v: usize, slow: u32, samples: &Samples, missing: &mut u32
 {
     let first = machine::VOICE_WORDS * v;
     let end = first + machine::VOICE_WORDS;
-    if let Some(added) = voice::turn(&mut m[first..end], slow, samples, missing) {
-        add(m, added.channel, added.left, added.right);
-    }
+    let addend = voice::turn(&mut m[first..end], slow, samples, missing);
+    add(m, addend);
     let cr = m[first + machine::CR];
     signal(m, v, cr);
 }
 
-// Left and right are added to the sums of a channel; channels 6 and 7 are none.
-fn add(m: &mut [u32], channel: u32, left: i32, right: i32)
+// What a turn adds goes to the sums of its channel; channels 6 and 7 are none.
+fn add(m: &mut [u32], addend: Option<Addend>)
     requires m_len { length m.old ≡ RECORD_WORDS }
     requires by_index { (i : ℕ) → i < OUTPUT_VALUES → get_or m.old (SUMS + i) 0 < 8388608 }
-    requires within { Within 1048576 left }
-    requires within_2 { Within 1048576 right }
-    ensures { m.new ≡ added m.old channel left right }
+    requires left { Within 1048576 (as_addend addend).left }
+    requires right { Within 1048576 (as_addend addend).right }
+    ensures { m.new ≡ added m.old (as_addend addend).channel (as_addend addend).left (as_addend addend).right }
 {
-    if channel < 6 {
+    let Some(
+        Addend {
+            channel,
+            left,
+            right,
+        },
+    ) = addend
+    else {
+        return;
+    };
+    if channel < CHANNELS {
         let at = left_sum(channel);
         add_to(m, at, left);
         add_to(m, at + 1, right);
@@ -125,6 +140,7 @@ fn left_sum(channel: u32) -> usize
 
 // A waiting voice goes into the mask, and enters an empty vector. A turn never clears a flag, so
 // where the voice does not wait the mask is true already, and costs nothing.
+#[tactic(auto, using(crate::proofs::Steps::signal_enters, crate::proofs::Steps::signal_occupied, crate::proofs::Steps::signal_quiet))]
 fn signal(m: &mut [u32], v: usize, cr: u32)
     requires m_len { length m.old ≡ RECORD_WORDS }
     requires v_bound { v < VOICES }

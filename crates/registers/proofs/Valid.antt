@@ -1,21 +1,24 @@
 -- What each rule on a register leaves of a valid record is valid.
 -- In order: words of a valid record and how great they are (`word_lt`, `cr_lt`, `latch_lt`); the latches and the pot result; writing
 -- (`write_sound`); reading (`read_sound`). That each call keeps a record valid is Corollaries. Assumes nothing.
-use mathlib.Core.Path.{◌≡◌, refl, ◌∙◌}
-use mathlib.Core.List.{List}
+use mathlib.Core.Path.{◌≡◌, refl, sym, ap, ◌∙◌}
+use mathlib.Core.Bool.{Bool, true, cond}
+use mathlib.Core.List.{List, [], ◌∷◌}
 use mathlib.Core.Logic.{◌≢◌}
-use Prim.Native.Nat.{ℕ, zero, suc, ◌-◌, ◌^◌, ◌<◌, ◌≤◌}
+use Prim.Native.Nat.{ℕ, zero, suc, ◌+◌, ◌-◌, ◌*◌, ◌/◌, ◌%◌, ◌^◌, ◌<◌, ◌≤◌}
 use native.Mathlib.Nat.{mod-eq_of_lt}
 use native.Mathlib.Omega.{arith}
-use lib.Bits.{and_mask}
+use lib.Bits.{bit_and, and_mask}
 use lib.Dec.{eqb, ltb, ltb→lt}
 use lib.ListN.{get_or, set}
-use borrow.Author.Tests.{ltb-true}
+use lib.Seq.{get_or-set_same, get_or-set_other}
+use borrow.Author.Tests.{ltb-true, lt-ltb, le-ltb}
 use Rattle.numbers.proofs.Tests.{either, all_at}
-use Rattle.control.specs.Control.{with_bit, IRQ}
-use Rattle.control.proofs.Bits.{put_small}
-use Rattle.machine.specs.Words.{CR, PAGE, IRQV, PAR, WRITE_LATCH, READ_LATCH, voice_word, shared_bits, bits_of, cut, is_vector, WAIT_MASK, RECORD_WORDS}
-use Rattle.machine.proofs.Valid.{Sound, in_range, word-le, bits_voice, cut_again, range_set, sound_masked, sound_set}
+use Rattle.control.specs.Control.{bit_of, flag_of, with_bit, IRQ}
+use Rattle.control.proofs.Bits.{put_small, read_put}
+use Rattle.machine.specs.Words.{VOICES, CR, PAGE, IRQV, PAR, WRITE_LATCH, READ_LATCH, SUMS, NO_INTERRUPT, voice_word, shared_bits, bits_of, cut, is_vector, waiting_voices, with_mask, valid, WAIT_MASK, RECORD_WORDS}
+use Rattle.machine.proofs.Mask.{bit_flag, one_marked, masked_set, masked_after}
+use Rattle.machine.proofs.Valid.{Sound, sound, is_valid, in_range, word-le, bits_voice, cut_again, range_set, sound_masked, sound_set}
 use Rattle.registers.specs.declared.Register.{Register}
 use Rattle.registers.specs.declared.Register.TheVariants.{Word, Sum, Par, Irqv, Nothing}
 use Rattle.registers.specs.Registers.{register_of, with_byte, stored, written_to, read_as, acknowledged, side_effect, read_from}
@@ -66,6 +69,16 @@ pot_sound p s h = low_sound PAR 10 p s (omega arith) (omega arith) (λ z. omega 
 
 -- ---- writing
 
+-- a word whose bytes are those of x, but byte k is b
+pub byte_put : (k b x r : ℕ) (l : List ℕ) → k < 4 → x < 2 ^ 32 → l ≡ x / 16777216 % 256 ∷ x / 65536 % 256 ∷ x / 256 % 256 ∷ x % 256 ∷ []
+    → r ≡ get_or (set l k b) 0 0 * 16777216 + get_or (set l k b) 1 0 * 65536 + get_or (set l k b) 2 0 * 256 + get_or (set l k b) 3 0 → r ≡ with_byte k b x
+unfolding with_byte
+byte_put zero b x r l h d e q = rw e at q ∙ omega arith
+byte_put (suc zero) b x r l h d e q = rw e at q ∙ omega arith
+byte_put (suc (suc zero)) b x r l h d e q = rw e at q ∙ omega arith
+byte_put (suc (suc (suc zero))) b x r l h d e q = rw e at q ∙ omega arith
+byte_put (suc (suc (suc (suc k)))) b x r l h d e q = absurd (omega arith)
+
 pub byte_lt : (k b x : ℕ) → k < 4 → b < 256 → x < 2 ^ 32 → with_byte k b x < 2 ^ 32
 unfolding with_byte
 byte_lt zero b x h d e = omega arith
@@ -74,7 +87,7 @@ byte_lt (suc (suc zero)) b x h d e = omega arith
 byte_lt (suc (suc (suc zero))) b x h d e = omega arith
 byte_lt (suc (suc (suc (suc k)))) b x h d e = absurd (omega arith)
 
-stored_sound : (m : List ℕ) (register : Register) (x : ℕ) → Sound m → Inside register → Sound (stored m register x)
+pub stored_sound : (m : List ℕ) (register : Register) (x : ℕ) → Sound m → Inside register → Sound (stored m register x)
 unfolding stored
 stored_sound m (Word i) x s h = sound_masked (range_set i (cut i x) (in_range s) (omega (arith, h.0)) (cut_again i x) (λ e. absurd (h.1 e)))
 stored_sound m (Sum i) x s h = sound_set i (cut i x) s (omega (arith, h.0)) h.1 (cut_again i x) (λ e. absurd (let z : ⊥ = omega (arith, h.0) in z))
@@ -104,7 +117,7 @@ value_lt m Nothing s h = omega arith
 pub latched : (m : List ℕ) (register : Register) → Sound m → Inside register → Sound (set m READ_LATCH (read_as m register))
 latched m register s h = read_latch (read_as m register) s (value_lt m register s h)
 
-acknowledged_sound : (m : List ℕ) → Sound m → Sound (acknowledged m)
+pub acknowledged_sound : (m : List ℕ) → Sound m → Sound (acknowledged m)
 unfolding acknowledged is_vector bits_of shared_bits cut
 acknowledged_sound m s =
     let v = get_or m IRQV 0 in
@@ -134,3 +147,71 @@ read_sound m r k s h =
     either Sound (eqb k 0) _ _
     (λ _. side_effect_sound (set m READ_LATCH (read_as m register)) register (latched m register s (inside (get_or m PAGE 0) r h)))
     (λ _. s)
+
+-- ---- what the functions leave of a valid record: the same by its test
+
+module _ (m : List ℕ) (v : valid m ≡ true) where
+  pub valid_write_latch : (x : ℕ) → x < 2 ^ 32 → valid (set m WRITE_LATCH x) ≡ true
+  valid_write_latch x h = is_valid _ (write_latch x (sound m v) h)
+
+  pub valid_read_latch : (x : ℕ) → x < 2 ^ 32 → valid (set m READ_LATCH x) ≡ true
+  valid_read_latch x h = is_valid _ (read_latch x (sound m v) h)
+
+  pub valid_pot : (p : ℕ) → p ≤ 1023 → valid (set m PAR p) ≡ true
+  valid_pot p h = is_valid _ (pot_sound p (sound m v) h)
+
+  pub valid_stored : (n : List ℕ) (i x : ℕ) → i < WAIT_MASK → (i ≡ IRQV → ⊥) → n ≡ with_mask (set m i (cut i x)) → valid n ≡ true
+  unfolding stored
+  valid_stored n i x h k e = rw e (is_valid _ (stored_sound m (Word i) x (sound m v) (h, k)))
+
+  pub valid_sum : (i x : ℕ) → SUMS ≤ i → i < WAIT_MASK → valid (set m i (bit_and x (bits_of i))) ≡ true
+  unfolding stored cut
+  valid_sum i x h k = is_valid _ (stored_sound m (Sum i) x (sound m v) (h, k))
+
+  pub valid_acknowledged : (n : List ℕ) → n ≡ acknowledged m → valid n ≡ true
+  valid_acknowledged n e = rw e (is_valid _ (acknowledged_sound m (sound m v)))
+
+  pub valid_word : (i : ℕ) → i < RECORD_WORDS → get_or m i 0 < 2 ^ 32
+  valid_word i h = word_lt m (sound m v) i h
+
+  pub valid_cr : (u : ℕ) → u < 32 → get_or m (voice_word u CR) 0 < 65536
+  valid_cr u h = cr_lt m (sound m v) u h
+
+-- ---- where two words change together
+
+-- what is stored in a control register makes the mask true but for its voice's flag, which `mark` puts there
+pub mark_stored : (m : List ℕ) (i y : ℕ) (b : Bool) → valid m ≡ true → i < PAGE → i % 20 ≡ 0 → b ≡ flag_of IRQ y
+    → waiting_voices (set m i y) ≡ with_bit (i / 20) (cond b 1 0) (get_or (set m i y) WAIT_MASK 0)
+mark_stored m i y b v h k e =
+    let s = sound m v in
+    let u = i / 20 in
+    let at : voice_word u CR ≡ i = omega arith in
+    one_marked m (set m i y) u (cond b 1 0) s.mask (get_or-set_other m i WAIT_MASK y 0 (λ z. omega arith)) (omega arith)
+    (λ w l d. get_or-set_other m i (voice_word w CR) y 0 (λ z. d (omega arith)))
+    (rw at (ap (bit_of IRQ) (get_or-set_same m i y 0 (omega (arith, s.size))) ∙ bit_flag IRQ y ∙ ap (λ (c : Bool). cond c 1 0) (sym e)))
+
+-- any other word leaves it true
+pub kept_stored : (m : List ℕ) (i y : ℕ) → valid m ≡ true → i < WAIT_MASK → (i < PAGE → i % 20 ≡ 0 → ⊥) → set m i y ≡ with_mask (set m i y)
+kept_stored m i y v h d =
+    sym (masked_set m i y (sound m v).mask (λ u l z. d (omega arith) (omega arith)) (λ z. omega arith))
+
+-- the flag of the voice that the vector names is cleared
+module _ (m : List ℕ) (u x : ℕ) (h : u < VOICES) (e : x ≡ with_bit IRQ 0 (get_or m (voice_word u CR) 0)) where
+  pub mark_cleared : valid m ≡ true → waiting_voices (set m (voice_word u CR) x) ≡ with_bit u 0 (get_or (set m (voice_word u CR) x) WAIT_MASK 0)
+  mark_cleared v =
+      let s = sound m v in
+      let i = voice_word u CR in
+      one_marked m (set m i x) u 0 s.mask (get_or-set_other m i WAIT_MASK x 0 (λ z. omega arith)) h
+      (λ w l d. get_or-set_other m i (voice_word w CR) x 0 (λ z. d (omega arith)))
+      (ap (bit_of IRQ) (get_or-set_same m i x 0 (omega (arith, s.size)) ∙ e) ∙ read_put IRQ 0 (get_or m i 0) (omega arith))
+
+  -- the vector is put last, where the definition makes the mask true last
+  pub acknowledges : (n : List ℕ) → u ≡ get_or m IRQV 0 → n ≡ with_mask (set m (voice_word u CR) x) → set n IRQV NO_INTERRUPT ≡ acknowledged m
+  unfolding acknowledged
+  acknowledges n q p =
+      let l : get_or m IRQV 0 < VOICES = omega arith in
+      rw (p, ← (masked_after (set m (voice_word u CR) x) IRQV NO_INTERRUPT (omega arith) (λ z. omega arith)), e, q, lt-ltb _ _ l) refl
+
+pub acknowledges_none : (m : List ℕ) → VOICES ≤ get_or m IRQV 0 → m ≡ acknowledged m
+unfolding acknowledged
+acknowledges_none m h = rw (le-ltb _ _ h) refl

@@ -4,13 +4,16 @@
 #![tactic(auto)]
 
 ghost use Rattle.std.specs.Prelude.{◌≡◌, true, ◌<◌, get_or, set};
+ghost use Rattle.answer.specs.Answer.{answer_of, value_or};
+ghost use Rattle.machine.specs.Lent.{Leaves};
 ghost use Rattle.machine.specs.Words.{READ_LATCH, WAIT_MASK, cut, with_mask, valid};
 ghost use Rattle.registers.specs.Registers.{register_of, byte_of, with_byte, stored, written_to, read_as, side_effect, read_from};
 ghost use Rattle.registers.specs.Registers.{acknowledged};
 ghost use Rattle.registers.specs.Inside.{Inside};
-ghost use Rattle.registers.specs.Access.{byte_answer, Writes, Reads, SetsPot};
+ghost use Rattle.registers.specs.Access.{asked, Writes, Reads, SetsPot};
 
-use answer::Answer;
+use answer::Refusal;
+use machine::Machine;
 
 // The greatest byte address: byte 3 of register 15.
 const ADDRESS_LIMIT: u32 = 63;
@@ -28,103 +31,79 @@ pub enum Register {
     Nothing,
 }
 
-/// What a read gives.
-#[derive(Clone, Copy, Debug, PartialEq, Eq)]
-pub struct Got {
-    pub answer: Answer,
-    pub byte: u8,
-}
-
 /// A byte from the host. The registers are wider than its bus: byte 3 of a register sends off the
 /// bytes gathered before it.
-pub fn write(m: &mut [u32], address: u32, value: u8) -> Answer
+#[tactic(auto, using(crate::proofs::Laws::byte_valid, crate::proofs::Laws::byte_place))]
+pub fn write(m: &mut [u32], address: u32, value: u8) -> Result<(), Refusal>
     ensures { Writes m.old address value result m.new }
 {
-    let a = refusal(m, address);
-    let Answer::Done = a else {
-        return a;
-    };
-    write_byte(m, address / 4, address % 4, value);
-    Answer::Done
+    check_within(m, ADDRESS_LIMIT, address, Refusal::Address)?;
+    let mut machine = Machine::lent(m);
+    write_byte(&mut machine, address / 4, address % 4, value);
+    Ok(())
 }
 
 /// A byte for the host. Byte 0 takes the register whole, so that the bytes after it belong
 /// together.
-pub fn read(m: &mut [u32], address: u32) -> Got
-    ensures { Reads m.old address result.answer result.byte m.new }
+#[tactic(auto, using(crate::proofs::Laws::byte_valid, crate::proofs::Laws::byte_place))]
+pub fn read(m: &mut [u32], address: u32) -> Result<u8, Refusal>
+    ensures { Reads m.old address (answer_of result) (value_or 0 result) m.new }
 {
-    let a = refusal(m, address);
-    let Answer::Done = a else {
-        return Got { answer: a, byte: 0 };
-    };
-    let byte = read_byte(m, address / 4, address % 4);
-    Got {
-        answer: Answer::Done,
-        byte: byte,
-    }
+    check_within(m, ADDRESS_LIMIT, address, Refusal::Address)?;
+    let mut machine = Machine::lent(m);
+    Ok(read_byte(&mut machine, address / 4, address % 4))
 }
 
 /// A conversion result, for the host to read.
-pub fn set_pot(m: &mut [u32], value: u32) -> Answer
+#[tactic(auto, using(crate::proofs::Laws::pot_long))]
+pub fn set_pot(m: &mut [u32], value: u32) -> Result<(), Refusal>
     ensures { SetsPot m.old value result m.new }
 {
-    let a = machine::check(m);
-    let Answer::Done = a else {
-        return a;
-    };
-    if machine::POT_LIMIT < value {
-        return Answer::Pot;
-    }
+    check_within(m, machine::POT_LIMIT, value, Refusal::Pot)?;
     m[machine::PAR] = value;
-    Answer::Done
+    Ok(())
 }
 
-// Why a byte is refused, the record asked before the address; Done where it is not.
-fn refusal(m: &[u32], address: u32) -> Answer
-    ensures { result ≡ byte_answer m.now address }
+// Why a call is refused that asks the record, and then that its number is within the limit.
+#[tactic(auto, using(crate::proofs::Laws::asked_bad, crate::proofs::Laws::asked_far, crate::proofs::Laws::asked_done))]
+fn check_within(m: &[u32], limit: u32, number: u32, beyond: Refusal) -> Result<(), Refusal>
+    ensures { result ≡ asked m.now limit number beyond }
 {
-    let record = machine::check(m);
-    let Answer::Done = record else {
-        return record;
-    };
-    if ADDRESS_LIMIT < address {
-        return Answer::Address;
+    machine::check(m)?;
+    if limit < number {
+        return Err(beyond);
     }
-    Answer::Done
+    Ok(())
 }
 
 // Byte k of register r is written.
-fn write_byte(m: &mut [u32], r: u32, k: u32, b: u8)
-    requires m_value { valid m.old ≡ true }
-    requires r_bound { (r < 16) × (k < 4) }
-    ensures { m.new ≡ written_to m.old r k b }
+#[tactic(auto, using(machine::proofs::Valid::valid_long, crate::proofs::Valid::valid_write_latch), unfolding(crate::specs::Registers::written_to))]
+fn write_byte(machine: &mut Machine, r: u32, k: u32, b: u8)
+    requires { (r < 16) × (k < 4) }
+    ensures { Leaves machine.old machine.new (written_to machine.old.words.now r k b) }
 {
-    let old = m[machine::WRITE_LATCH];
-    let latch = with_byte(k, b, old);
+    let latch = with_byte(k, b, machine.words[machine::WRITE_LATCH]);
     if k != 3 {
-        m[machine::WRITE_LATCH] = latch;
+        machine.words[machine::WRITE_LATCH] = latch;
         return;
     }
-    let page = m[machine::PAGE];
-    let register = decode(page, r);
-    store(m, register, latch);
-    m[machine::WRITE_LATCH] = 0;
+    let register = decode(machine.words[machine::PAGE], r);
+    store(machine, register, latch);
+    machine.words[machine::WRITE_LATCH] = 0;
 }
 
 // Byte k of register r is read.
-#[tactic(auto, using(machine::proofs::Valid::sound), unfolding(crate::specs::Registers::read_from))]
-fn read_byte(m: &mut [u32], r: u32, k: u32) -> u8
-    requires m_value { valid m.old ≡ true }
-    requires r_bound { (r < 16) × (k < 4) }
-    ensures { (m.new ≡ read_from m.old r k) × (result ≡ byte_of k (get_or m.new READ_LATCH 0)) }
+#[tactic(auto, using(machine::proofs::Valid::valid_long), unfolding(crate::specs::Registers::read_from))]
+fn read_byte(machine: &mut Machine, r: u32, k: u32) -> u8
+    requires { (r < 16) × (k < 4) }
+    ensures leaves { Leaves machine.old machine.new (read_from machine.old.words.now r k) }
+    ensures gives { result ≡ byte_of k (get_or machine.new.words.now READ_LATCH 0) }
 {
     if k == 0 {
-        let page = m[machine::PAGE];
-        let register = decode(page, r);
-        load(m, register);
+        let register = decode(machine.words[machine::PAGE], r);
+        load(machine, register);
     }
-    let latch = m[machine::READ_LATCH];
-    byte(k, latch)
+    byte(k, machine.words[machine::READ_LATCH])
 }
 
 // The register that a page and a number name.
@@ -165,24 +144,21 @@ fn decode(page: u32, r: u32) -> Register
 
 // x, cut to the bits kept, in a register that can be written. The others take nothing: their writes
 // end in the latch.
-fn store(m: &mut [u32], register: Register, x: u32)
-    requires m_value { valid m.old ≡ true }
-    requires inside { Inside register }
-    ensures { m.new ≡ stored m.old register x }
+#[tactic(auto, using(machine::proofs::Valid::valid_long, crate::proofs::Valid::valid_stored, crate::proofs::Valid::valid_sum), unfolding(crate::specs::Registers::stored, machine::specs::Words::cut))]
+fn store(machine: &mut Machine, register: Register, x: u32)
+    requires { Inside register }
+    ensures { Leaves machine.old machine.new (stored machine.old.words.now register x) }
 {
     match register {
-        Register::Word(i) => store_word(m, i, x),
-        Register::Sum(i) => {
-            m[i] = x & machine::bits_of(i);
-        }
-        Register::Par => {}
-        Register::Irqv => {}
-        Register::Nothing => {}
+        Register::Word(i) => store_word(&mut *machine.words, i, x),
+        Register::Sum(i) => machine.words[i] = x & machine::bits_of(i),
+        Register::Par | Register::Irqv | Register::Nothing => {}
     }
 }
 
 // x, cut to the bits kept, in word i. Where that is a control register, its flag goes into the mask
-// too.
+// too: the record is valid again only then, so both are written here.
+#[tactic(auto, using(machine::proofs::Valid::valid_long, machine::proofs::Valid::stored_long, crate::proofs::Valid::mark_stored, crate::proofs::Valid::kept_stored), unfolding(machine::specs::Words::cut))]
 fn store_word(m: &mut [u32], i: usize, x: u32)
     requires m_value { valid m.old ≡ true }
     requires i_bound { i < WAIT_MASK }
@@ -190,81 +166,64 @@ fn store_word(m: &mut [u32], i: usize, x: u32)
 {
     let y = x & machine::bits_of(i);
     m[i] = y;
-    if i < machine::PAGE {
-        if i % machine::VOICE_WORDS == machine::CR {
-            let flag = control::bit(control::IRQ, y);
-            machine::mark(m, i / machine::VOICE_WORDS, flag);
-        }
+    if i < machine::PAGE && i % machine::VOICE_WORDS == machine::CR {
+        machine::mark(m, i / machine::VOICE_WORDS, control::flag(control::IRQ, y));
     }
 }
 
 // Byte 0 of a register is read: the register goes to the read latch. The pot result reads as all
 // ones until the next one is there.
-fn load(m: &mut [u32], register: Register)
-    requires m_value { valid m.old ≡ true }
-    requires inside { Inside register }
-    ensures { m.new ≡ side_effect (set m.old READ_LATCH (read_as m.old register)) register }
+#[tactic(auto, using(machine::proofs::Valid::valid_long, crate::proofs::Valid::valid_word, crate::proofs::Valid::valid_read_latch, crate::proofs::Valid::valid_pot, crate::proofs::Valid::valid_acknowledged), unfolding(crate::specs::Registers::read_as, crate::specs::Registers::side_effect))]
+fn load(machine: &mut Machine, register: Register)
+    requires { Inside register }
+    ensures { Leaves machine.old machine.new (side_effect (set machine.old.words.now READ_LATCH (read_as machine.old.words.now register)) register) }
 {
     match register {
-        Register::Word(i) => {
-            m[machine::READ_LATCH] = m[i];
-        }
-        Register::Sum(_) => {
-            m[machine::READ_LATCH] = 0;
-        }
+        Register::Word(i) => machine.words[machine::READ_LATCH] = machine.words[i],
         Register::Par => {
-            m[machine::READ_LATCH] = m[machine::PAR];
-            m[machine::PAR] = machine::POT_LIMIT;
+            machine.words[machine::READ_LATCH] = machine.words[machine::PAR];
+            machine.words[machine::PAR] = machine::POT_LIMIT;
         }
         Register::Irqv => {
-            m[machine::READ_LATCH] = m[machine::IRQV];
-            acknowledge(m);
+            machine.words[machine::READ_LATCH] = machine.words[machine::IRQV];
+            acknowledge(&mut *machine.words);
         }
-        Register::Nothing => {
-            m[machine::READ_LATCH] = 0;
-        }
+        Register::Sum(_) | Register::Nothing => machine.words[machine::READ_LATCH] = 0,
     }
 }
 
 // The vector was read: the voice that it names loses its interrupt flag, in the mask too, and the
-// vector is free for the next.
+// vector is free for the next. The record is valid again only when all are written.
+#[tactic(auto, using(machine::proofs::Valid::valid_long, machine::proofs::Valid::stored_long, crate::proofs::Valid::valid_cr, crate::proofs::Valid::mark_cleared, crate::proofs::Valid::acknowledges, crate::proofs::Valid::acknowledges_none))]
 fn acknowledge(m: &mut [u32])
     requires { valid m.old ≡ true }
     ensures { m.new ≡ acknowledged m.old }
 {
-    let voice = m[machine::IRQV];
-    if voice < machine::VOICES as u32 {
-        let i = machine::VOICE_WORDS * voice as usize + machine::CR;
-        let cr = m[i];
-        m[i] = control::with_bit(control::IRQ, 0, cr);
-        machine::mark(m, voice as usize, 0);
+    let voice = m[machine::IRQV] as usize;
+    if voice < machine::VOICES {
+        let i = machine::VOICE_WORDS * voice + machine::CR;
+        m[i] = control::with_bit(control::IRQ, false, m[i]);
+        machine::mark(m, voice, false);
         m[machine::IRQV] = machine::NO_INTERRUPT;
     }
 }
 
 // x with its byte k, counted from the highest, replaced by b.
+#[tactic(auto, using(crate::proofs::Valid::byte_put))]
 fn with_byte(k: u32, b: u8, x: u32) -> u32
     requires { k < 4 }
     ensures { result ≡ with_byte k b x }
 {
-    let b = b as u32;
-    match k {
-        0 => b * 16777216 + x % 16777216,
-        1 => x / 16777216 * 16777216 + b * 65536 + x % 65536,
-        2 => x / 65536 * 65536 + b * 256 + x % 256,
-        _ => x / 256 * 256 + b,
-    }
+    let mut bytes = x.to_be_bytes();
+    bytes[k as usize] = b;
+    u32::from_be_bytes(bytes)
 }
 
 // Byte k of x, counted from the highest.
+#[tactic(auto, unfolding(crate::specs::Registers::byte_of))]
 fn byte(k: u32, x: u32) -> u8
     requires { k < 4 }
     ensures { result ≡ byte_of k x }
 {
-    match k {
-        0 => (x / 16777216) as u8,
-        1 => (x / 65536 % 256) as u8,
-        2 => (x / 256 % 256) as u8,
-        _ => (x % 256) as u8,
-    }
+    x.to_be_bytes()[k as usize]
 }

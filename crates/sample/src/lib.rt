@@ -27,7 +27,7 @@ pub struct Samples<'a> {
 impl<'a> Samples<'a> {
     /// The memory that is lent.
     pub fn new(memory: &'a [u16]) -> Samples<'a>
-        ensures { result.memory ≡ memory.entry }
+        ensures { result.memory.now ≡ memory.now }
     {
         Samples {
             memory,

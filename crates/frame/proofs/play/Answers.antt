@@ -1,0 +1,68 @@
+-- `frame::play` meets its contract: a record stays sound from turn to turn, and what all turns share is as it was made. Assumes nothing.
+use mathlib.Core.Path.{◌≡◌, refl, sym, ap, ◌∙◌}
+use mathlib.Core.List.{List}
+use Prim.Native.Nat.{ℕ, ◌+◌}
+use native.Mathlib.Numerals.{add-one}
+use native.Mathlib.Omega.{arith}
+use lib.ListN.{get_or}
+use Rattle.numbers.specs.Sum.{sum}
+use Rattle.machine.specs.Words.{ACTV, SLOW}
+use Rattle.machine.specs.Voices.{voice_at}
+use Rattle.machine.proofs.Valid.{sound, is_valid}
+use Rattle.voice.specs.Voice.{voice_of}
+use Rattle.voice.specs.Missed.{missed_by}
+use Rattle.frame.specs.Frame.{turn_at, turns, played}
+use Rattle.frame.proofs.Keeps.{active_le, sound_turn}
+use Rattle.frame.proofs.Leaves.{slow_stays, turned}
+use Rattle.frame.proofs.Missing.{missed_in_turns, missed_in-turns, missed_in-turns_most}
+use Rattle.frame.proofs.play.Goals as goal
+
+pub loop-v-init : goal.loop-v-init
+unfolding turns missed_in_turns sum
+loop-v-init c = record { same = refl; turned = refl; missed = refl }
+
+pub turn-requires-clause-v_bound : goal.turn-requires-clause-v_bound
+turn-requires-clause-v_bound c = omega (arith, active_le _ (sound _ c.args.m.now.sound))
+
+pub turn-requires-clause-slow_value : goal.turn-requires-clause-slow_value
+turn-requires-clause-slow_value c =
+    let s = sound _ c.args.m.now.sound in
+    let l = c.loop-v in
+    sym (ap (λ (x : List ℕ). get_or x SLOW 0) l.invariant.turned ∙ slow_stays (turned c.args.memory.now l.v (omega (arith, active_le _ s)) s))
+
+pub turn-requires-clause-missing_bound : goal.turn-requires-clause-missing_bound
+turn-requires-clause-missing_bound c =
+    omega (arith, c.loop-v.invariant.missed, missed_in-turns_most c.args.memory.now c.loop-v.v c.args.m.now.words.now, active_le _ (sound _ c.args.m.now.sound))
+
+pub invariant_of-m : goal.invariant_of-m
+invariant_of-m c =
+    let s = sound_turn c.args.memory.now c.loop-v.v (sound _ c.loop-v.m.sound) (omega (arith, active_le _ (sound _ c.args.m.now.sound))) in
+    let e = c.turn.ensures.m_after ∙ ap (λ (x : List ℕ). turn_at x c.loop-v.v c.loop-v.m.words.now) c.new-samples.ensures in
+    record { whole = rw e s.size; sound = rw e (is_valid _ s) }
+
+pub loop-v-preserved : goal.loop-v-preserved
+unfolding turns missed_in_turns sum
+loop-v-preserved c =
+    let l = c.loop-v in
+    let h = l.invariant in
+    let memory = c.args.memory.now in
+    let lent = c.new-samples.ensures in
+    record {
+      same = h.same;
+      turned = rw add-one (c.turn.ensures.m_after ∙ (λ i. turn_at (lent i) l.v (h.turned i)));
+      missed = rw add-one (c.turn.ensures.missing_after ∙ (λ i. h.missed i + missed_by (lent i) (voice_of (voice_at (h.turned i) l.v))));
+    }
+
+pub returns-clause-leaves : goal.returns-clause-leaves
+unfolding played
+returns-clause-leaves c =
+    let h = c.loop-v.invariant in
+    let m = c.args.m.now.words.now in
+    let e : c.loop-v.v ≡ get_or m ACTV 0 + 1 = omega arith in
+    (h.same, h.turned ∙ ap (λ (k : ℕ). turns c.args.memory.now k m) e)
+
+pub returns-clause-missing : goal.returns-clause-missing
+returns-clause-missing c =
+    let m = c.args.m.now.words.now in
+    let e : c.loop-v.v ≡ get_or m ACTV 0 + 1 = omega arith in
+    c.loop-v.invariant.missed ∙ ap (λ (k : ℕ). missed_in_turns c.args.memory.now k m) e ∙ missed_in-turns c.args.memory.now (sound m c.args.m.now.sound)
