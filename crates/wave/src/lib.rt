@@ -6,7 +6,7 @@
 //! bytes has at most 8,191. There is no other loop.
 #![tactic(auto)]
 
-ghost use Rattle.std.specs.Prelude.{◌≡◌, false, ◌≤◌, length};
+ghost use Rattle.std.specs.Prelude.{◌≡◌, false, cond, Some, None, ◌≤◌, length};
 ghost use Rattle.chunks.specs.Chunks.{chunks_from, FIRST_CHUNK as Chunks-as-FIRST_CHUNK};
 ghost use Rattle.wave.specs.Wave.{is_short, is_mono16, is_sampler_short, FORMAT_BYTES as Wave-as-FORMAT_BYTES};
 ghost use Rattle.wave.specs.Parse.{first_kept, kept_more, with_chunk, once_both, collected_of, parsed_of, first_sampler_short_of, loop_of_kept, InFile, FirstInFile};
@@ -83,16 +83,20 @@ impl Found {
         }
     }
 
+    // One more chunk; None for a format chunk that has less than it must.
     #[tactic(auto, unfolding(layout::specs::Bytes::little))]
-    fn add(&mut self, c: Chunk)
-        ensures { self.new ≡ with_chunk c self.old }
+    fn add(&mut self, c: Chunk) -> Option<()>
+        ensures full { result ≡ cond (is_short c) None (Some tt) }
+        ensures kept { self.new ≡ cond (is_short c) self.old (with_chunk c self.old) }
     {
         match c.name {
+            chunks::FORMAT if c.size < FORMAT_BYTES => return None,
             chunks::FORMAT => self.format.add(c),
             chunks::DATA => self.pcm.add(c),
             chunks::SAMPLER => self.sampler.add(c),
             _ => {}
         }
+        Some(())
     }
 }
 
@@ -118,20 +122,10 @@ fn collect(file: &[u8], end: usize) -> Option<Found>
     let mut at = chunks::FIRST_CHUNK;
     while at < end {
         let (chunk, next) = chunks::chunk_at(file, end, at)?;
-        if is_short(chunk) {
-            return None;
-        }
-        found.add(chunk);
+        found.add(chunk)?;
         at = next;
     }
     Some(found)
-}
-
-#[tactic(auto, unfolding(layout::specs::Bytes::little))]
-fn is_short(c: Chunk) -> bool
-    ensures { result ≡ is_short c }
-{
-    c.name == chunks::FORMAT && c.size < FORMAT_BYTES
 }
 
 // ---- the format

@@ -1,8 +1,8 @@
 -- `wave::collect` meets its contract: at each chunk, how far the pass has come. Assumes nothing.
-use Rattle.std.proofs.Common.{rules, arith, sym, ◌∙◌}
+use Rattle.std.proofs.Common.{rules, arith, ◌∙◌}
 use Rattle.chunks.specs.Chunks.{named}
 use Rattle.wave.specs.Parse.{kept_of}
-use Rattle.wave.proofs.Collecting.{begun, stops, next_on, too_short, one_more, all_read}
+use Rattle.wave.proofs.Collecting.{begun, was_short, was_full, stops, next_on, too_short, one_more, all_read}
 use Rattle.wave.proofs.collect.Goals as goal
 
 pub loop-at-init : goal.loop-at-init
@@ -16,9 +16,10 @@ returns-in_err-chunk c =
     let s = stops c.loop-at.invariant c.chunk_at.result c.chunk_at.ensures c.loop-at-test.true c.in_err-chunk.was in
     search (rules, s)
 
-pub returns-then-is_short : goal.returns-then-is_short
-returns-then-is_short c =
-    too_short c.loop-at.invariant c.chunk_at.result c.chunk_at.ensures c.loop-at-test.true _ _ c.in_ok-chunk.was (sym c.is_short.ensures ∙ c.if-is_short.true)
+pub returns-in_err-add : goal.returns-in_err-add
+returns-in_err-add c =
+    let s = too_short c.loop-at.invariant c.chunk_at.result c.chunk_at.ensures c.loop-at-test.true _ _ c.in_ok-chunk.was (was_short _ _ c.add.ensures.full c.in_err-add.was) in
+    search (rules, s)
 
 pub loop-at-smaller : goal.loop-at-smaller
 loop-at-smaller c =
@@ -27,7 +28,7 @@ loop-at-smaller c =
 
 pub loop-at-preserved : goal.loop-at-preserved
 loop-at-preserved c =
-    one_more c.loop-at.invariant c.chunk_at.result c.chunk_at.ensures c.loop-at-test.true _ _ c.in_ok-chunk.was (sym c.is_short.ensures ∙ c.if-is_short.false) _ c.add.ensures
+    one_more c.loop-at.invariant c.chunk_at.result c.chunk_at.ensures c.loop-at-test.true _ _ c.in_ok-chunk.was (was_full _ _ c.add.ensures.full c.in_ok-add.was) _ (c.add.ensures.kept ∙ rw (was_full _ _ c.add.ensures.full c.in_ok-add.was))
 
 pub returns : goal.returns
 returns c = all_read c.loop-at.invariant c.loop-at-test.false
