@@ -1,6 +1,6 @@
 -- What each answer of `chunks::open` tells of the file, and where the chunks of one with a header end. Assumes nothing.
-use mathlib.Core.Path.{◌≡◌, refl}
-use mathlib.Core.Bool.{Bool, true, false, cond, and-eq-true_iff, ◌&&◌}
+use mathlib.Core.Path.{◌≡◌}
+use mathlib.Core.Bool.{true, false, and-eq-true_iff, ◌&&◌}
 use mathlib.Core.List.{List}
 use Prim.Native.Nat.{ℕ, ◌≤◌}
 use native.Mathlib.Omega.{arith}
@@ -11,23 +11,16 @@ use Rattle.std.specs.Prelude.{Option, Some, None}
 use Rattle.layout.specs.Bytes.{little4_at}
 use Rattle.chunks.specs.Chunks.{RIFF, WAVE, MOST_FILE_BYTES, FIRST_CHUNK, riff_length, riff_end, is_headed}
 use Rattle.chunks.specs.Walk.{opened_of}
-
-unheaded_by : (t : Bool) (n : ℕ) (r : Option ℕ) → r ≡ None → r ≡ cond t (Some n) None → t ≡ false
-unheaded_by true n r e f = absurd (let z : ◌≡◌ {A = ℕ} 0 1 = cc in omega arith)
-unheaded_by false n r e f = refl
-
-upto_by : (t : Bool) (n : ℕ) (r : Option ℕ) (end : ℕ) → r ≡ Some end → r ≡ cond t (Some n) None → (t ≡ true) × (end ≡ n)
-upto_by true n r end e f = (refl, cc)
-upto_by false n r end e f = absurd (let z : ◌≡◌ {A = ℕ} 0 1 = cc in omega arith)
+use Rattle.chunks.proofs.Told.{none_where, some_where}
 
 module _ (file : List ℕ) (r : Option ℕ) (read : r ≡ opened_of file) where
   pub was_unheaded : r ≡ None → is_headed file ≡ false
   unfolding opened_of
-  was_unheaded e = unheaded_by (is_headed file) (riff_end file) r e read
+  was_unheaded e = none_where (is_headed file) (riff_end file) r read e
 
   pub was_upto : (end : ℕ) → r ≡ Some end → (is_headed file ≡ true) × (end ≡ riff_end file)
   unfolding opened_of
-  was_upto end e = upto_by (is_headed file) (riff_end file) r end e read
+  was_upto end e = some_where (is_headed file) (riff_end file) end r read e
 
 -- the chunks end within the file, which is not too long
 pub headed_within : (file : List ℕ) → is_headed file ≡ true → (FIRST_CHUNK ≤ riff_end file) × (riff_end file ≤ length file) × (length file ≤ MOST_FILE_BYTES)

@@ -1,3 +1,4 @@
+pub mod Told
 pub mod Headed
 pub mod Names
 pub mod Reached

@@ -8,8 +8,8 @@ use Prim.Native.Nat.{ℕ, zero, suc, ◌+◌, ◌-◌, ◌*◌, ◌≤◌, ◌<�
 use native.Mathlib.Nat.{mul-zero, mul-suc}
 use native.Mathlib.Numerals.{add-one}
 use native.Mathlib.Omega.{arith}
-use lib.ListN.{length, get_or, set, take, drop, length-append, length-drop, take-append-drop, get_or-append}
-use lib.Seq.{length-take-le, drop-cons, take-append-le, drop-append-le, get_or-append-add, get_or-take, get_or-drop, take_at, drop_at, drop-drop, set_split}
+use lib.ListN.{length, get_or, take, drop, length-append, length-drop, take-append-drop, get_or-append}
+use lib.Seq.{length-take-le, drop-cons, take-append-le, drop-append-le, get_or-append-add, get_or-take, get_or-drop, take_at, drop_at, drop-drop}
 use Rattle.std.specs.Simd.{first_chunks}
 use Rattle.layout.specs.Parts.{part, with_part}
 

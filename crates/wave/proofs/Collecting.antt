@@ -2,7 +2,7 @@
 -- In order: format chunks that are short, in a list that is longer; how far the pass has come, as a record; how it begins, where it stops, one chunk
 -- more, and the end. Assumes nothing.
 use mathlib.Core.Path.{◌≡◌, refl, sym, ap, ◌∙◌}
-use mathlib.Core.Bool.{Bool, true, false, cond, ◌||◌, or-true, or_assoc}
+use mathlib.Core.Bool.{true, false, ◌||◌, or-true, or_assoc}
 use mathlib.Core.List.{List, [], ◌∷◌, ◌++◌, append_assoc, append-nil}
 use Prim.Native.Nat.{ℕ, ◌+◌, ◌-◌, ◌≤◌, ◌<◌}
 use native.Mathlib.Omega.{arith}
@@ -23,15 +23,6 @@ short_append : (cs ds : List Chunk) → any_short (cs ++ ds) ≡ (any_short cs |
 unfolding any_short
 short_append [] ds = refl
 short_append (c ∷ cs) ds = rw (short_append cs ds) (sym (or_assoc (is_short c) (any_short cs) (any_short ds)))
-
--- what is answered of one more chunk
-pub was_short : (t : Bool) (r : Option (Unit {0})) → r ≡ cond t None (Some tt) → r ≡ None → t ≡ true
-was_short true r e f = refl
-was_short false r e f = absurd (let z : ◌≡◌ {A = ℕ} 0 1 = cc in omega arith)
-
-pub was_full : (t : Bool) (r : Option (Unit {0})) → r ≡ cond t None (Some tt) → r ≡ Some tt → t ≡ false
-was_full true r e f = absurd (let z : ◌≡◌ {A = ℕ} 0 1 = cc in omega arith)
-was_full false r e f = refl
 
 -- ---- how far the pass has come: some chunks are done, and the others are read from here
 

@@ -13,6 +13,7 @@ use Rattle.chunks.specs.Row.{InRow}
 use Rattle.chunks.specs.declared.Chunk.{Chunk}
 use Rattle.chunks.specs.Walk.{opened_of}
 use Rattle.chunks.proofs.Headed.{was_unheaded, was_upto, headed_within}
+use Rattle.chunks.proofs.Told.{none_unless, some_unless}
 use Rattle.chunks.proofs.Row.{listing_row}
 use Rattle.chunks.proofs.Named.{Each, Before, row_before, each_named}
 use Rattle.wave.specs.Wave.{first_of, any_short, first_sampler_short, is_broken}
@@ -22,23 +23,15 @@ use Rattle.wave.proofs.Keeping.{kept_sampler_short, kept_in}
 
 -- ---- what the pass came to
 
-by_short : (t : Bool) (f : Found) → (r : Option Found) → r ≡ None → r ≡ cond t None (Some f) → t ≡ true
-by_short true f r e g = refl
-by_short false f r e g = absurd (let z : ◌≡◌ {A = ℕ} 0 1 = cc in omega arith)
-
-by_found : (t : Bool) (f g : Found) → (r : Option Found) → r ≡ Some g → r ≡ cond t None (Some f) → (t ≡ false) × (g ≡ f)
-by_found true f g r e h = absurd (let z : ◌≡◌ {A = ℕ} 0 1 = cc in omega arith)
-by_found false f g r e h = (refl, cc)
-
 came_broken : (x : Listing) (r : Option Found) → r ≡ None → r ≡ collected_of x → (b : Bool) → (is_unreadable x || (any_short (chunks_in x) || b)) ≡ true
 unfolding collected_of is_unreadable chunks_in
 came_broken unreadable r e g b = refl
-came_broken (chunks cs) r e g b = rw (by_short (any_short cs) (found_of cs) r e g)
+came_broken (chunks cs) r e g b = rw (none_unless (any_short cs) (found_of cs) r g e)
 
 came_found : (x : Listing) (r : Option Found) (f : Found) → r ≡ Some f → r ≡ collected_of x → (is_unreadable x ≡ false) × ((any_short (chunks_in x) ≡ false) × (f ≡ found_of (chunks_in x)))
 unfolding collected_of is_unreadable chunks_in
 came_found unreadable r f e g = absurd (let z : ◌≡◌ {A = ℕ} 0 1 = cc in omega arith)
-came_found (chunks cs) r f e g = let b = by_found (any_short cs) (found_of cs) f r e g in (refl, (b.0, b.1))
+came_found (chunks cs) r f e g = let b = some_unless (any_short cs) (found_of cs) f r g e in (refl, (b.0, b.1))
 
 -- ---- a file that can be read as chunks
 
@@ -136,8 +129,8 @@ module _ (file : List ℕ) where
 module _ (file : List ℕ) (r : Option Found) (parsed : r ≡ parsed_of file) where
   pub was_broken : r ≡ None → is_broken file ≡ true
   unfolding parsed_of
-  was_broken e = by_short (is_broken file) (found_of (chunks_of file)) r e parsed
+  was_broken e = none_unless (is_broken file) (found_of (chunks_of file)) r parsed e
 
   pub was_found : (f : Found) → r ≡ Some f → (is_broken file ≡ false) × (f ≡ found_of (chunks_of file))
   unfolding parsed_of
-  was_found f e = by_found (is_broken file) (found_of (chunks_of file)) f r e parsed
+  was_found f e = some_unless (is_broken file) (found_of (chunks_of file)) f r parsed e

@@ -21,6 +21,7 @@ use Rattle.wave.specs.Parse.{found_of, once_both, first_sampler_short_of, loop_o
 use Rattle.wave_in.specs.Steps.{settled_of}
 use Rattle.wave.specs.declared.Loop.{Loop}
 use Rattle.wave.specs.declared.Found.{Found}
+use Rattle.chunks.proofs.Told.{none_where, some_where}
 use Rattle.wave.proofs.Keeping.{kept_both, kept_loop}
 use Rattle.wave.proofs.Parsing.{was_broken, was_found}
 use Rattle.wave.proofs.NotBroken.{not_broken, named_in, sampler_in_file, format_full, sampler_full}
@@ -41,24 +42,19 @@ Settles file room word r = r ≡ settled_of file room word
 -- ---- how often format and data are there
 
 module _ (cs : List Chunk) where
-  abbrev Both : Type 0
-  Both = Option (Chunk × Chunk)
+  module _ (r : Option (Chunk × Chunk)) (r-is : r ≡ once_both (found_of cs)) where
+    by_count : r ≡ cond (is_once (named FORMAT cs) && is_once (named DATA cs)) (Some (format_of cs, data_of cs)) None
+    by_count = r-is ∙ kept_both (named FORMAT cs) (named DATA cs)
 
-  none_by : (t : Bool) → cond {A = Both} t (Some (format_of cs, data_of cs)) None ≡ None → not t ≡ true
-  none_by true e = absurd (let z : ◌≡◌ {A = ℕ} 0 1 = cc in omega arith)
-  none_by false e = refl
+    pub none_both : r ≡ None → is_miscounted cs ≡ true
+    unfolding is_miscounted
+    none_both e = ap not (none_where (is_once (named FORMAT cs) && is_once (named DATA cs)) (format_of cs, data_of cs) r by_count e)
 
-  both_by : (t : Bool) (x : Chunk × Chunk) → cond {A = Both} t (Some (format_of cs, data_of cs)) None ≡ Some x → (not t ≡ false) × (x ≡ (format_of cs, data_of cs))
-  both_by true x e = (refl, cc)
-  both_by false x e = absurd (let z : ◌≡◌ {A = ℕ} 0 1 = cc in omega arith)
-
-  pub none_both : once_both (found_of cs) ≡ None → is_miscounted cs ≡ true
-  unfolding is_miscounted
-  none_both e = none_by (is_once (named FORMAT cs) && is_once (named DATA cs)) (sym (kept_both (named FORMAT cs) (named DATA cs)) ∙ e)
-
-  pub both_there : (x : Chunk × Chunk) → once_both (found_of cs) ≡ Some x → (is_miscounted cs ≡ false) × (x ≡ (format_of cs, data_of cs))
-  unfolding is_miscounted
-  both_there x e = both_by (is_once (named FORMAT cs) && is_once (named DATA cs)) x (sym (kept_both (named FORMAT cs) (named DATA cs)) ∙ e)
+    pub both_there : (x : Chunk × Chunk) → r ≡ Some x → (is_miscounted cs ≡ false) × (x ≡ (format_of cs, data_of cs))
+    unfolding is_miscounted
+    both_there x e =
+        let t = some_where (is_once (named FORMAT cs) && is_once (named DATA cs)) (format_of cs, data_of cs) x r by_count e in
+        (ap not t.0, t.1)
 
   once_format : is_miscounted cs ≡ false → is_once (named FORMAT cs) ≡ true
   unfolding is_miscounted
@@ -76,11 +72,11 @@ module _ (file : List ℕ) (room word : ℕ) where
     unfolding settled_of import_answer
     broken e = rw (le-ltb MOST_MEMORY_WORDS room small, was_broken file p parsed e)
 
-    pub miscounted_so : (found : Found) → p ≡ Some found → once_both found ≡ None → Settles file room word (Err ChunkCount)
+    pub miscounted_so : (found : Found) → p ≡ Some found → (q : Option (Chunk × Chunk)) → q ≡ once_both found → q ≡ None → Settles file room word (Err ChunkCount)
     unfolding settled_of import_answer
-    miscounted_so found e m =
+    miscounted_so found e q q-is m =
         let w = was_found file p parsed found e in
-        rw (le-ltb MOST_MEMORY_WORDS room small, w.0, none_both (chunks_of file) (rw w.1 at m))
+        rw (le-ltb MOST_MEMORY_WORDS room small, w.0, none_both (chunks_of file) q (rw w.1 at q-is) m)
 
 -- ---- the answers once format and data are there, each once
 
@@ -97,8 +93,7 @@ pub ready : (room : ℕ) {file : List ℕ} {p : Option Found} {r : Result Found 
     → q ≡ once_both found → s ≡ ok_or q ChunkCount → s ≡ Ok (format, pcm) → Ready file room found format pcm
 ready room {file} {p} {r} {found} {q} {s} {format} {pcm} parsed small r-is r-was q-is s-is s-was =
     let w = was_found file p parsed found (some_was p FileBroken found r r-is r-was) in
-    let b : once_both (found_of (chunks_of file)) ≡ Some (format, pcm) = rw w.1 at (sym q-is ∙ some_was q ChunkCount (format, pcm) s s-is s-was) in
-    let t = both_there (chunks_of file) (format, pcm) b in
+    let t = both_there (chunks_of file) q (rw w.1 at q-is) (format, pcm) (some_was q ChunkCount (format, pcm) s s-is s-was) in
     record {
       small = small;
       unbroken = w.0;

@@ -2,7 +2,8 @@
 use Rattle.std.proofs.Common.{rules, arith, ◌∙◌}
 use Rattle.chunks.specs.Chunks.{named}
 use Rattle.wave.specs.Parse.{kept_of}
-use Rattle.wave.proofs.Collecting.{begun, was_short, was_full, stops, next_on, too_short, one_more, all_read}
+use Rattle.chunks.proofs.Told.{none_unless, some_unless}
+use Rattle.wave.proofs.Collecting.{begun, stops, next_on, too_short, one_more, all_read}
 use Rattle.wave.proofs.collect.Goals as goal
 
 pub loop-at-init : goal.loop-at-init
@@ -18,7 +19,7 @@ returns-in_err-chunk c =
 
 pub returns-in_err-add : goal.returns-in_err-add
 returns-in_err-add c =
-    let s = too_short c.loop-at.invariant c.chunk_at.result c.chunk_at.ensures c.loop-at-test.true _ _ c.in_ok-chunk.was (was_short _ _ c.add.ensures.full c.in_err-add.was) in
+    let s = too_short c.loop-at.invariant c.chunk_at.result c.chunk_at.ensures c.loop-at-test.true _ _ c.in_ok-chunk.was (none_unless _ _ _ c.add.ensures.full c.in_err-add.was) in
     search (rules, s)
 
 pub loop-at-smaller : goal.loop-at-smaller
@@ -28,7 +29,8 @@ loop-at-smaller c =
 
 pub loop-at-preserved : goal.loop-at-preserved
 loop-at-preserved c =
-    one_more c.loop-at.invariant c.chunk_at.result c.chunk_at.ensures c.loop-at-test.true _ _ c.in_ok-chunk.was (was_full _ _ c.add.ensures.full c.in_ok-add.was) _ (c.add.ensures.kept ∙ rw (was_full _ _ c.add.ensures.full c.in_ok-add.was))
+    let full = (some_unless _ _ _ _ c.add.ensures.full c.in_ok-add.was).0 in
+    one_more c.loop-at.invariant c.chunk_at.result c.chunk_at.ensures c.loop-at-test.true _ _ c.in_ok-chunk.was full _ (c.add.ensures.kept ∙ rw full)
 
 pub returns : goal.returns
 returns c = all_read c.loop-at.invariant c.loop-at-test.false

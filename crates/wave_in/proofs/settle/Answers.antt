@@ -13,7 +13,7 @@ pub returns-in_err-format : goal.returns-in_err-format
 returns-in_err-format c =
     let f = some_was _ _ _ _ c.ok_or.ensures.value c.in_ok-found.was in
     let p = none_was _ _ _ _ c.ok_or-2.ensures.value c.in_err-format.was in
-    let m = miscounted_so c.args.file.now c.args.room c.args.word (omega arith) _ c.parse.ensures _ f (sym c.format_and_data.ensures ∙ p.0) in
+    let m = miscounted_so c.args.file.now c.args.room c.args.word (omega arith) _ c.parse.ensures _ f _ c.format_and_data.ensures p.0 in
     search (rules, m, p.1)
 
 pub is_mono16-requires-clause-in_file : goal.is_mono16-requires-clause-in_file
