@@ -12,8 +12,10 @@ ghost use Rattle.std.specs.Prelude.{◌≡◌, cond, ◌+◌, ◌≤◌, length,
 ghost use Rattle.layout.specs.Parts.{part, with_part};
 ghost use Rattle.repeats.specs.Repeats.{COMMAND_BYTES, back_at, asked_at, repeats_at, stands_for, in_full};
 
+/// Of a command.
 pub const COMMAND_BYTES: usize = 4;
 
+/// The kind of a repeat.
 pub const REPEAT: u8 = 7;
 
 // ---- a repeat

@@ -26,10 +26,12 @@ use calls::Ask;
 use repeats::COMMAND_BYTES;
 use thiserror::Error;
 
+/// The words of sample memory, and their bytes.
 pub const MEMORY_WORDS: usize = 4096;
 
 pub const MEMORY_BYTES: usize = 8192;
 
+/// Of a score.
 pub const MOST_BYTES: usize = 65536;
 
 /// Of 65,536 commands in full.
@@ -50,6 +52,7 @@ pub const MOST_FRAMES: u64 = 1073741814;
 
 // ---- a command: which calls it makes
 
+/// What a command asks for.
 #[derive(Clone, Copy, Debug, PartialEq, Eq)]
 pub enum Command {
     /// A call that is made once.
@@ -81,8 +84,8 @@ impl From<[u8; COMMAND_BYTES]> for Command {
 }
 
 impl Command {
-    #[tactic(auto, unfolding(crate::specs::Score::call_after))]
     /// The call that it makes where so many of its calls are made; none where these are all.
+    #[tactic(auto, unfolding(crate::specs::Score::call_after))]
     pub fn call(self, made: u32) -> Option<Ask>
         ensures { result ≡ call_after self made }
     {
@@ -128,6 +131,7 @@ pub fn fill(memory: &mut [u16], score: &[u8])
 
 // ---- how many frames there are
 
+/// Of all commands.
 pub fn frames_of(commands: &[u8]) -> u64
     requires { length commands.now ≤ MOST_FULL_BYTES }
     ensures { result ≡ all_frames commands.now }
@@ -296,7 +300,8 @@ pub fn play(
     let mut calls = 0;
     let mut frames = 0;
     let mut refused = 0;
-    // No `for` over the commands: it begins and stops within one of them.
+    // No `for` over the commands: it begins and stops within one of them, and an iterator would
+    // hold the same two numbers.
     while calls < room && command < whole.len() {
         match Command::from(whole[command]).call(made) {
             Some(ask) => {
