@@ -39,6 +39,7 @@ pub enum Refusal {
 }
 
 /// The number of what a call answers, for hosts: 0 where it is done, whatever it gives.
+// The numbers are the hosts', and leave out 8 to 19: a match, as the definition is.
 pub fn number<T: Drop>(answer: Result<T, Refusal>) -> u32
     ensures { result ≡ answer_number (answer_of answer) }
 {

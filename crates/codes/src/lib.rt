@@ -57,7 +57,8 @@ pub fn compress(sample: i16) -> u8
 }
 
 // The sample, or the complement of a negative one: `s >> 31` has no bit set, or every bit, and `^`
-// with every bit is the complement.
+// with every bit is the complement. (`unsigned_abs` is another number: that of -1 is 1, and its
+// complement 0.)
 fn magnitude(sample: i16) -> u32
     ensures { (result ≡ mag sample) × (result < 32768) }
 {

@@ -83,6 +83,7 @@ fn render<W: Write>(
     let mut refused: u64 = 0;
     let mut loud = 0;
     say_progress(rt, 0, frames);
+    // A part tells where the next one begins.
     while position.command < commands.len() / COMMAND_BYTES {
         let next = scores::play(m, memory, commands, position, &mut part);
         loud = put(file, &part, next.frames, loud)?;

@@ -62,7 +62,8 @@ pub fn full_bytes(commands: &[u8]) -> usize
     n
 }
 
-// Of what a command stands for, where so many bytes stand before it.
+// Of what a command stands for, where so many bytes stand before it. (`put_stands_for` is the same
+// with the bytes: how many they are is asked before there is room for them.)
 fn stands_bytes(command: [u8; COMMAND_BYTES], before: usize) -> usize
     ensures value { result ≡ cond (repeats_at command 0 before) (asked_at command 0) COMMAND_BYTES }
     ensures few { result ≤ 1020 }

@@ -123,6 +123,8 @@ pub fn fill(memory: &mut [u16], score: &[u8])
     requires { 2 * length memory.old ≤ length score.now }
     ensures { Filled (length memory.old) score.now memory.new }
 {
+    // A WAVE file's samples are read by the same two lines, the lowest byte first: one function for
+    // both would be handed the order, and be no shorter.
     let (words, _) = score.as_chunks::<2>();
     for (i, word) in memory.iter_mut().enumerate() {
         *word = u16::from_be_bytes(words[i]);
@@ -207,7 +209,8 @@ fn judge_commands(commands: &[u8]) -> Result<(), ScoreError>
     Ok(())
 }
 
-// Whether each command is of a kind below this one.
+// Whether each command is of a kind below this one. The kind is the command's byte: an enum of the
+// kinds would have no case for those that there are not, which are asked for here.
 fn all_below(kind: u8, commands: &[u8]) -> bool
     ensures { result ≡ all_below kind commands.now }
 {

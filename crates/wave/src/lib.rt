@@ -119,6 +119,7 @@ fn collect(file: &[u8], end: usize) -> Option<Found>
     ensures { result ≡ collected_of (chunks_from end file.now end Chunks-as-FIRST_CHUNK) }
 {
     let mut found = Found::default();
+    // A chunk tells where the next one is: no range or iterator has the places.
     let mut at = chunks::FIRST_CHUNK;
     while at < end {
         let (chunk, next) = chunks::chunk_at(file, end, at)?;
