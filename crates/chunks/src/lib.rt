@@ -7,6 +7,7 @@ ghost use Rattle.std.specs.Prelude.{◌≡◌, ◌+◌, ◌≤◌, length};
 ghost use Rattle.layout.specs.Bytes.{little4_at as Bytes-as-little4_at};
 ghost use Rattle.chunks.specs.Walk.{opened_of, reach_of};
 
+/// How many bytes a file may have at most.
 pub const MOST_FILE_BYTES: usize = 65536;
 
 /// The byte of a file at which its first chunk begins.

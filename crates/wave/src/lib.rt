@@ -134,6 +134,7 @@ fn collect(file: &[u8], end: usize) -> Option<Found>
 // `InFile` is a clause of the three that read a chunk: a type of a file and a chunk would owe the
 // same where it is made, in each call, as `Piece::of(file, c).is_mono16()`.
 
+/// Whether the samples are PCM of 16 bits and one channel.
 #[tactic(auto, using(layout::proofs::Endian::little_2_at), unfolding(crate::specs::Wave::is_mono16))]
 pub fn is_mono16(file: &[u8], c: Chunk) -> bool
     requires in_file { InFile file.now c }
@@ -160,6 +161,7 @@ fn is_sampler_short(file: &[u8], c: Chunk) -> bool
     c.size < SAMPLER_BYTES + LOOP_BYTES * loops
 }
 
+/// The first loop of the first sampler chunk, if there is one.
 #[tactic(auto, using(layout::proofs::Endian::little_4_at), unfolding(crate::specs::Wave::is_sampler_short, crate::specs::Wave::loop_in))]
 pub fn first_loop(file: &[u8], k: Kept) -> Option<Loop>
     requires in_file { FirstInFile file.now k }
