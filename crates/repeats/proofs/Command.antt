@@ -1,11 +1,11 @@
 -- A command by its own four bytes, as the code has it, and as it stands in a list of them.
--- In order: the arrays that a list is cut into (`chunk_is`), and those that are commands (`command_is`); what a command says, and what it stands for,
+-- In order: the arrays that are commands (`command_is`); what a command says, and what it stands for,
 -- by its own bytes (`own_kind`, `own_number`, `own_byte`, `own_asked`, `own_repeats`, `own_stands`); its number of two bytes (`number_is`). Assumes
 -- nothing.
 use mathlib.Core.Path.{◌≡◌, refl, sym, ap, ◌∙◌}
 use mathlib.Core.List.{List, []}
-use Prim.Native.Nat.{ℕ, zero, suc, ◌+◌, ◌*◌, ◌<◌}
-use native.Mathlib.Nat.{add-zero, mul-zero, mul-suc}
+use Prim.Native.Nat.{ℕ, ◌+◌, ◌*◌, ◌<◌}
+use native.Mathlib.Nat.{add-zero}
 use native.Mathlib.Omega.{arith}
 use lib.ListN.{length, get_or, take, drop}
 use lib.Seq.{drop-drop}
@@ -13,20 +13,12 @@ use Rattle.std.specs.Simd.{first_chunks}
 use Rattle.std.proofs.lemmas.List.{drop-take, take-take}
 use Rattle.layout.specs.Parts.{part}
 use Rattle.layout.specs.Bytes.{big, big2_at}
-use Rattle.layout.proofs.Parts.{part_at}
+use Rattle.layout.proofs.Parts.{part_at, chunk_is}
 use Rattle.layout.proofs.Bytes.{part_2}
 use Rattle.layout.proofs.Endian.{big_2}
 use Rattle.repeats.specs.Repeats.{COMMAND_BYTES, command_count, kind_at, number_at, byte_at, back_at, asked_at, repeats_at, stands_for}
 
--- the arrays of n elements that a list is cut into are its parts
-pub chunk_is : (n k : ℕ) (xs : List ℕ) (i : ℕ) → i < k → get_or (first_chunks n k xs) i [] ≡ part xs (n * i) n
-chunk_is n zero xs i h = absurd (omega arith)
-chunk_is n (suc k) xs zero h = rw mul-zero refl
-chunk_is n (suc k) xs (suc i) h =
-    let e : n + n * i ≡ n * suc i = omega (arith, mul-suc n i) in
-    chunk_is n k (drop n xs) i (omega arith) ∙ ap (take n) (drop-drop (n * i) n xs ∙ ap (λ (m : ℕ). drop m xs) e)
-
--- and so are those that the code has
+-- the arrays that the code has of a list are its parts
 pub command_is : (xs : List ℕ) (chunks : List (List ℕ)) (k : ℕ) → chunks ≡ first_chunks COMMAND_BYTES (command_count xs) xs → k < command_count xs
     → get_or chunks k [] ≡ part xs (COMMAND_BYTES * k) COMMAND_BYTES
 command_is xs chunks k e h = rw e (chunk_is COMMAND_BYTES (command_count xs) xs k h)

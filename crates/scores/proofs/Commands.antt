@@ -21,7 +21,8 @@ use Rattle.layout.specs.Bytes.{big2_at}
 use Rattle.layout.proofs.Bytes.{part_2}
 use Rattle.layout.proofs.Endian.{big_2_at}
 use Rattle.repeats.specs.Repeats.{COMMAND_BYTES, command_count, kind_at, number_at, byte_at}
-use Rattle.repeats.proofs.Command.{chunk_is, command_is, own_kind, own_number, own_byte}
+use Rattle.layout.proofs.Parts.{chunk_is}
+use Rattle.repeats.proofs.Command.{command_is, own_kind, own_number, own_byte}
 use Rattle.scores.specs.Score.{command_of, command_at, command_no, times_of, frames_of, first_below, all_below}
 use Rattle.scores.specs.declared.Command.{Command}
 use Rattle.calls.specs.declared.Ask.{Ask}

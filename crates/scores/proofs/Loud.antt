@@ -20,7 +20,7 @@ use Rattle.layout.specs.Parts.{part}
 use Rattle.layout.specs.Bytes.{little2_at}
 use Rattle.layout.proofs.Bytes.{part_2}
 use Rattle.layout.proofs.Endian.{little_2_at}
-use Rattle.repeats.proofs.Command.{chunk_is}
+use Rattle.layout.proofs.Parts.{chunk_is}
 use Rattle.scores.specs.Sound.{loudest_of}
 
 -- how far a sample is from 0: from the middle on, a word stands for a number below 0
