@@ -220,9 +220,9 @@ fn look_at_four(m: &[u32; RECORD_WORDS], j: usize, kept: &[u32; VOICE_WORDS], st
     requires lanes { Lanes stray.old (gathered_kept m.now j) }
     ensures { Lanes stray.new (gathered_kept m.now (j + 4)) }
 {
-    for l in 0..4 {
+    for (l, lane) in stray.iter_mut().enumerate() {
         let all = gather(m, j + l);
-        stray[l] |= all ^ (all & kept[j + l]);
+        *lane |= all ^ (all & kept[j + l]);
     }
 }
 
@@ -234,13 +234,13 @@ fn look_at_rest(m: &[u32; RECORD_WORDS], kept: &[u32; SHARED_WORDS], stray: &mut
     requires lanes { Lanes stray.old (gathered_kept m.now 16) }
     ensures { Lanes stray.new (gathered_kept m.now 20 && sums_kept m.now 4 && shared_kept m.now 4) }
 {
-    for l in 0..4 {
-        let all = gather_last(m, l);
+    for (l, lane) in stray.iter_mut().enumerate() {
+        let all = gather(m, O3N2 + l);
         let sums = m[SUMS + l] | m[SUMS + 4 + l] | m[SUMS + 8 + l];
         let low = m[PAGE + l];
         let middle = m[PAGE + 4 + l];
         let high = m[PAGE + 8 + l];
-        stray[l] |= (all ^ (all & FILTER_BITS))
+        *lane |= (all ^ (all & FILTER_BITS))
             | (sums ^ (sums & SUM_BITS))
             | (low ^ (low & kept[l]))
             | (middle ^ (middle & kept[4 + l]))
@@ -254,22 +254,10 @@ fn gather(m: &[u32; RECORD_WORDS], j: usize) -> u32
     requires { j < 20 }
     ensures { result ≡ in_voices m.now j }
 {
+    let (voices, _) = m[..PAGE].as_chunks::<VOICE_WORDS>();
     let mut all = 0;
-    for v in 0..VOICES {
-        all |= m[VOICE_WORDS * v + j];
-    }
-    all
-}
-
-// The same of word O3N2 + l. A function with two callers is not put in line, so the last four words
-// have one of their own.
-fn gather_last(m: &[u32; RECORD_WORDS], l: usize) -> u32
-    requires { l < 4 }
-    ensures { result ≡ in_voices m.now (Words-as-O3N2 + l) }
-{
-    let mut all = 0;
-    for v in 0..VOICES {
-        all |= m[VOICE_WORDS * v + O3N2 + l];
+    for voice in voices {
+        all |= voice[j];
     }
     all
 }
@@ -281,8 +269,8 @@ fn gather_flags(m: &[u32; RECORD_WORDS]) -> u32
     ensures { result ≡ waiting_voices m.now }
 {
     let mut flags: u64 = 0;
-    for i in 0..VOICES {
-        let cr = m[VOICE_WORDS * (VOICES - 1 - i) + CR];
+    for v in (0..VOICES).rev() {
+        let cr = m[VOICE_WORDS * v + CR];
         flags = 2 * flags + u64::from(control::bit(control::IRQ, cr) << control::IRQ);
     }
     (flags >> control::IRQ) as u32

@@ -17,5 +17,5 @@ loop-l-preserved c =
     let m = c.args.m.now in
     let e : 16 + (l + 1) ≡ 16 + l + 1 = omega arith in
     rw e
-    (one_more_of_all m c.args.kept.now (16 + l) l _ _ _ c.loop-l.invariant (omega arith) c.gather_last-all.ensures (last_bits l (omega arith))
+    (one_more_of_all m c.args.kept.now (16 + l) l _ _ _ c.loop-l.invariant (omega arith) c.gather-all.ensures (last_bits l (omega arith))
     (three_sums m l) c.requires.kept_value)
