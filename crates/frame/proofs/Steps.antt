@@ -1,16 +1,13 @@
--- The parts of a turn by their tests, and the loops' laws: one held sum more, a word of the record after a sum. What they leave word by word
--- is Leaves. Assumes nothing.
-use mathlib.Core.Path.{◌≡◌, refl, sym, ap, ◌∙◌}
+-- The parts of a turn by their tests, and a word of the record after a sum. What they leave word by word is Leaves. Assumes nothing.
+use mathlib.Core.Path.{◌≡◌, sym, ◌∙◌}
 use mathlib.Core.Bool.{true, false, cond}
-use mathlib.Core.List.{List, [], ◌∷◌, ◌++◌, map, append-nil}
+use mathlib.Core.List.{List}
 use mathlib.Core.Logic.{◌≢◌}
-use Prim.Native.Nat.{ℕ, zero, suc, ◌+◌, ◌*◌, ◌<◌, ◌≤◌}
-use native.Mathlib.Nat.{le_of_suc-le-suc, not-suc-le-zero}
-use native.Mathlib.Numerals.{add-one}
+use Prim.Native.Nat.{ℕ, ◌+◌, ◌*◌, ◌<◌, ◌≤◌}
 use borrow.Author.Tests.{eq-eqb, ne_eqb, lt-ltb, le-ltb}
 use lib.IntN.{ℤ}
-use lib.ListN.{length, get_or, set, take, drop, length-set, drop_of_length-le}
-use lib.Seq.{take_all, get_or-set_other}
+use lib.ListN.{length, get_or, set, length-set}
+use lib.Seq.{get_or-set_other}
 use Rattle.numbers.specs.Numbers.{word}
 use Rattle.numbers.proofs.Tests.{split}
 use Rattle.control.specs.Control.{flag_of, with_bit, IRQ}
@@ -57,20 +54,3 @@ module _ (m : List ℕ) (v CR : ℕ) where
 pub signal_quiet : (m : List ℕ) (v CR : ℕ) → flag_of IRQ CR ≡ false
     → waiting_voices m ≡ cond (flag_of IRQ CR) (with_bit v 1 (get_or m WAIT_MASK 0)) (get_or m WAIT_MASK 0) → signalled (with_mask m) v CR ≡ m
 signal_quiet m v CR f h = signal_none (with_mask m) v CR f ∙ masked_same m (sym (rw f at h))
-
--- ---- loops
-
--- f of one element more
-map-suc : (f : ℕ → ℤ) (n : ℕ) (s : List ℕ) (d : List ℤ) → n < length s → n < length d
-    → set (map f (take n s) ++ drop n d) n (f (get_or s n 0)) ≡ map f (take (suc n) s) ++ drop (suc n) d
-map-suc f n [] d h k = absurd (not-suc-le-zero h)
-map-suc f n (x ∷ s) [] h k = absurd (not-suc-le-zero k)
-map-suc f zero (x ∷ s) (y ∷ d) h k = refl
-map-suc f (suc n) (x ∷ s) (y ∷ d) h k = ap (λ (t : List ℤ). f x ∷ t) (map-suc f n s d (le_of_suc-le-suc h) (le_of_suc-le-suc k))
-
-pub map_more : (f : ℕ → ℤ) (n : ℕ) (s : List ℕ) (d : List ℤ) → n < length s → n < length d
-    → set (map f (take n s) ++ drop n d) n (f (get_or s n 0)) ≡ map f (take (n + 1) s) ++ drop (n + 1) d
-map_more f n s d h k = rw add-one (map-suc f n s d h k)
-
-pub map_all : (f : ℕ → ℤ) (n : ℕ) (s : List ℕ) (d : List ℤ) → length s ≤ n → length d ≤ n → map f (take n s) ++ drop n d ≡ map f s
-map_all f n s d h k = rw (take_all n s h, drop_of_length-le d k) (append-nil (map f s))

@@ -29,8 +29,8 @@ const LEAST_ACTV: u32 = 4;
 // How many channels have sums.
 const CHANNELS: u32 = 6;
 
-/// One frame: twelve values in channel order, left before right. How many words of sample memory
-/// its running voices asked for and missed.
+/// One frame: twelve values in channel order, left before right. Gives how many words of sample
+/// memory its running voices asked for and missed.
 pub fn frame(m: &mut [u32], memory: &[u16], out: &mut [i32]) -> Result<u32, Refusal>
     ensures { Frames m.old memory.now out.old (answer_of result) (value_or 0 result) m.new out.new }
 {

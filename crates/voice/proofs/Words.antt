@@ -7,7 +7,7 @@ use mathlib.Core.List.{List}
 use Prim.Native.Nat.{ℕ}
 use native.Mathlib.Nat.{zero-add}
 use lib.IntN.{ℤ, pos}
-use lib.ListN.{length, get_or, set, length-set}
+use lib.ListN.{length, get_or, set}
 use lib.Seq.{ext_get_or}
 use Rattle.numbers.specs.Numbers.{word}
 use Rattle.numbers.proofs.Tests.{listed, listed_at}
@@ -15,7 +15,6 @@ use Rattle.filter.specs.declared.Poles.{Poles}
 use Rattle.address.specs.declared.Place.{Place}
 use Rattle.voice.specs.Voice.{Levels, voice_of, words_of}
 use Rattle.voice.specs.Turn.{passing, levels_of, last_outputs, ramped_levels, with_outputs, moved, sampled, stopped_turn, running_turn}
-use Rattle.voice.specs.Ranges.{Ranges}
 use Rattle.voice.specs.Takes.{place_of, after_filters, after_step, after_ramps}
 
 -- ---- twenty words are the words of their voice
@@ -58,32 +57,7 @@ unfoldable pub moved_back : List ℕ → List ℕ
 moved_back w = let l = set w 18 (get_or w 17 0) in set l 16 (get_or l 15 0)
 
 module _ (w : List ℕ) (h : length w ≡ 20) where
-  pub back_length : length (moved_back w) ≡ 20
-  unfolding moved_back
-  back_length = simp length-set h
-
-  pub back_ranges : Ranges (voice_of w) → Ranges (voice_of (moved_back w))
-  unfolding moved_back words_of
-  back_ranges r = as_voice w h (λ l. Ranges (voice_of (moved_back l))) (record {
-    cr = r.cr;
-    lvol = r.lvol;
-    rvol = r.rvol;
-    ecount = r.ecount;
-    k2 = r.k2;
-    k1 = r.k1;
-    o4n1 = r.o4n1;
-    o3n1 = r.o3n1;
-    o3n2 = r.o3n1;
-    o2n1 = r.o2n1;
-    o2n2 = r.o2n1;
-    o1n1 = r.o1n1;
-  })
-
-  -- neither the control register nor the filters hear of it
-  pub back_control : get_or w 0 0 ≡ get_or (moved_back w) 0 0
-  unfolding moved_back words_of
-  back_control = as_voice w h (λ l. get_or w 0 0 ≡ get_or (moved_back l) 0 0) refl
-
+  -- the filters do not hear of it
   pub back_passing : (x : ℤ) → passing x (voice_of (moved_back w)) ≡ passing x (voice_of w)
   unfolding moved_back words_of last_outputs
   back_passing x = as_voice w h (λ l. passing x (voice_of (moved_back l)) ≡ passing x (voice_of w)) refl
@@ -99,14 +73,6 @@ module _ (w : List ℕ) (h : length w ≡ 20) where
 -- ---- the whole turn
 
 module _ (w : List ℕ) where
-  pub filters_length : (x : ℤ) → length (after_filters x w) ≡ 20
-  unfolding after_filters words_of
-  filters_length x = refl
-
-  pub step_length : length (after_step w) ≡ 20
-  unfolding after_step words_of
-  step_length = refl
-
   -- the filters leave the control register and the levels; so does the step leave the levels
   pub filters_control : (x : ℤ) → get_or (after_filters x w) 0 0 ≡ get_or w 0 0
   unfolding after_filters words_of with_outputs

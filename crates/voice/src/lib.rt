@@ -18,7 +18,8 @@ ghost use Rattle.voice.specs.Takes.{after_step, after_ramps, Passes, TakesTurn, 
 use filter::Poles;
 use sample::Samples;
 
-// The words of a voice.
+// The words of a voice. Their ranges are no invariant of a type: it would be owed at each of a
+// turn's nineteen writes.
 type Words = [u32; machine::VOICE_WORDS];
 
 /// What a turn adds to the left and right sums of a channel.
@@ -44,13 +45,13 @@ pub fn turn(w: &mut [u32], slow: u32, samples: &Samples, missing: &mut u32) -> O
         unreachable!()
     };
     let cr = w[machine::CR];
-    let x = input(w, cr, samples, missing);
-    let o4 = pass(w, cr, x);
+    let x = input(w, samples, missing);
+    let o4 = pass(w, x);
     let runs = control::running(cr);
     if runs {
         let left = volume::pan(w[machine::LVOL], o4);
         let right = volume::pan(w[machine::RVOL], o4);
-        step(w, cr);
+        step(w);
         ramps(w, slow);
         return Some(Addend {
             channel: control::channel(cr),
@@ -63,12 +64,13 @@ pub fn turn(w: &mut [u32], slow: u32, samples: &Samples, missing: &mut u32) -> O
 
 // What goes into the filters: the sample that the voice is at, or 0 where it is stopped; such a
 // voice asks for no word, and misses none.
-fn input(w: &Words, cr: u32, samples: &Samples, missing: &mut u32) -> i32
-    requires cr_value { (cr ≡ get_or w.now CR 0) × (cr < 65536) }
+fn input(w: &Words, samples: &Samples, missing: &mut u32) -> i32
+    requires cr_bound { get_or w.now CR 0 < 65536 }
     requires missing_bound { missing.old + 2 < 2 ^ 32 }
-    ensures value { (result ≡ cond (runs cr) (sampled samples.now.memory.now (voice_of w.now)) (pos 0)) × Bits 18 result }
+    ensures value { (result ≡ cond (runs (get_or w.now CR 0)) (sampled samples.now.memory.now (voice_of w.now)) (pos 0)) × Bits 18 result }
     ensures missing_after { missing.new ≡ missing.old + missed_by samples.now.memory.now (voice_of w.now) }
 {
+    let cr = w[machine::CR];
     if !control::running(cr) {
         return 0;
     }
@@ -77,15 +79,20 @@ fn input(w: &Words, cr: u32, samples: &Samples, missing: &mut u32) -> i32
 
 // The sample x passes the filters; the new output of pole 4. The old outputs move back first, so
 // that no copy of them is kept.
-fn pass(w: &mut Words, cr: u32, x: i32) -> i32
+fn pass(w: &mut Words, x: i32) -> i32
     requires ranges { Ranges (voice_of w.old) }
-    requires cr_value { cr ≡ get_or w.old CR 0 }
     requires bits { Bits 18 x }
     ensures { Passes x w.old w.new result }
 {
     w[machine::O2N2] = w[machine::O2N1];
     w[machine::O3N2] = w[machine::O3N1];
-    let p = filter::filter(cr, w[machine::K1], w[machine::K2], x, last_outputs(w));
+    let p = filter::filter(
+        w[machine::CR],
+        w[machine::K1],
+        w[machine::K2],
+        x,
+        last_outputs(w),
+    );
     w[machine::O1N1] = numbers::word_of(18, p.o1);
     w[machine::O2N1] = numbers::word_of(18, p.o2);
     w[machine::O3N1] = numbers::word_of(18, p.o3);
@@ -109,16 +116,16 @@ fn last_outputs(w: &Words) -> Poles
 // ACCUM goes on: forward to END, in reverse to START. Where it does not pass that loop point
 // nothing else changes, whatever the loop mode. This quick step stays beside `address::step`, which
 // alone would take 608 to 785 instructions more a frame.
-fn step(w: &mut Words, cr: u32)
-    requires { (cr ≡ get_or w.old CR 0) × (cr < 65536) }
+fn step(w: &mut Words)
+    requires { get_or w.old CR 0 < 65536 }
     ensures { w.new ≡ after_step w.old }
 {
     let fc = w[machine::FC];
     let accum = w[machine::ACCUM];
-    if control::flag(control::DIR, cr) {
+    if control::flag(control::DIR, w[machine::CR]) {
         let t = i64::from(accum) - i64::from(fc);
         if t < i64::from(w[machine::START]) {
-            step_past(w, cr, fc, accum);
+            step_past(w);
         } else {
             w[machine::ACCUM] = t as u32;
         }
@@ -127,18 +134,23 @@ fn step(w: &mut Words, cr: u32)
         if t <= u64::from(w[machine::END]) {
             w[machine::ACCUM] = t as u32;
         } else {
-            step_past(w, cr, fc, accum);
+            step_past(w);
         }
     }
 }
 
 // The step that passes a loop point, whether the voice heeds it or not.
-fn step_past(w: &mut Words, cr: u32, fc: u32, accum: u32)
-    requires cr_value { (cr ≡ get_or w.old CR 0) × (cr < 65536) }
-    requires fc_value { (fc ≡ get_or w.old FC 0) × (accum ≡ get_or w.old ACCUM 0) }
+fn step_past(w: &mut Words)
+    requires { get_or w.old CR 0 < 65536 }
     ensures { w.new ≡ after_step w.old }
 {
-    let p = address::step(cr, fc, w[machine::START], w[machine::END], accum);
+    let p = address::step(
+        w[machine::CR],
+        w[machine::FC],
+        w[machine::START],
+        w[machine::END],
+        w[machine::ACCUM],
+    );
     w[machine::CR] = p.cr;
     w[machine::ACCUM] = p.accum;
 }

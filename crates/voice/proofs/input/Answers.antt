@@ -10,14 +10,14 @@ use Rattle.voice.proofs.input.Goals as goal
 
 pub returns-then-not-running-clause-missing_after : goal.returns-then-not-running-clause-missing_after
 unfolding missed_by
-returns-then-not-running-clause-missing_after c = rw (← c.requires.cr_value.0, sym c.running.ensures ∙ c.if-not-running.true) (sym (add-zero c.args.missing.now))
+returns-then-not-running-clause-missing_after c = rw (sym c.running.ensures ∙ c.if-not-running.true) (sym (add-zero c.args.missing.now))
 
 pub returns-clause-value : goal.returns-clause-value
 unfolding sampled
 returns-clause-value c =
     let i = c.interpolate in
-    handed w32 (Bits 18) i.type_inv i.ensures.value (rw (sym c.running.ensures ∙ c.if-not-running.false, c.requires.cr_value.0))
+    handed w32 (Bits 18) i.type_inv i.ensures.value (rw (sym c.running.ensures ∙ c.if-not-running.false))
 
 pub returns-clause-missing_after : goal.returns-clause-missing_after
 unfolding missed_by
-returns-clause-missing_after c = c.interpolate.ensures.missing_after ∙ rw (← c.requires.cr_value.0, sym c.running.ensures ∙ c.if-not-running.false)
+returns-clause-missing_after c = c.interpolate.ensures.missing_after ∙ rw (sym c.running.ensures ∙ c.if-not-running.false)

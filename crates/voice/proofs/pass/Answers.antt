@@ -8,7 +8,7 @@ use Rattle.filter.specs.declared.Poles.{Poles}
 use Rattle.voice.specs.Voice.{voice_of, words_of}
 use Rattle.voice.specs.Turn.{passing, with_outputs}
 use Rattle.voice.specs.Takes.{after_filters}
-use Rattle.voice.proofs.Words.{moved_back, back_control, back_passing, outputs_stored}
+use Rattle.voice.proofs.Words.{moved_back, back_passing, outputs_stored}
 use Rattle.voice.proofs.pass.Goals as goal
 
 pub returns : goal.returns
@@ -20,7 +20,7 @@ returns c =
     let p = c.filter-p.result in
     let b = c.filter-p.ensures.1 in
     let e : p ≡ passing x v =
-    c.filter-p.ensures.0 ∙ rw ((held w32 tt c.requires.bits).is, c.last_outputs.ensures.0, c.requires.cr_value ∙ back_control w c.told-w) (back_passing w c.told-w x) in
+    c.filter-p.ensures.0 ∙ rw ((held w32 tt c.requires.bits).is, c.last_outputs.ensures.0) (back_passing w c.told-w x) in
     let o4 = (held w32 tt b.o4).is in
     record {
       words =

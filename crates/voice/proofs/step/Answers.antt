@@ -16,7 +16,6 @@ use Rattle.numbers.proofs.Within.{of_pos}
 use Rattle.numbers.proofs.Local.{Num, Done, arg, sub, test}
 use Rattle.address.specs.declared.Place.{Place}
 use Rattle.address.proofs.Laws.{back_test, on_within, back_within}
-use Rattle.control.specs.Control.{flag_of, DIR}
 use Rattle.voice.specs.Voice.{voice_of, words_of}
 use Rattle.voice.specs.Turn.{levels_of, moved}
 use Rattle.voice.specs.Takes.{after_step}
@@ -45,7 +44,7 @@ unfolding after_step
 returns-else-t-from c =
     let w = c.args.w.now in
     let v = voice_of w in
-    let d = ap (flag_of DIR) (sym c.requires.0) ∙ sym c.flag.ensures ∙ c.if-flag.true in
+    let d = sym c.flag.ensures ∙ c.if-flag.true in
     let within = not_past c.from.ensures c.from-then-flag.ensures c.from-then-flag-2.ensures (c.fits-w 13) (c.fits-w 1) (c.fits-w 11) c.if-t-from.false in
     let at = lands c.from.ensures c.from-then-flag.ensures c.from-then-flag-2.ensures (c.fits-w 13) (c.fits-w 1) (c.fits-w 11) c.if-t-from.false in
     ap (set w 13) at ∙ accum_stored w c.told-w (v.accum - v.fc)
@@ -56,6 +55,6 @@ unfolding after_step
 returns-then-t-from-2 c =
     let w = c.args.w.now in
     let v = voice_of w in
-    let d = ap (flag_of DIR) (sym c.requires.0) ∙ sym c.flag.ensures ∙ c.if-flag.false in
+    let d = sym c.flag.ensures ∙ c.if-flag.false in
     ap (set w 13) (omega (arith, c.from-else-flag.ensures, c.from-else-flag-2.ensures)) ∙ accum_stored w c.told-w (v.accum + v.fc)
     ∙ ap (λ (a : Place). words_of (moved v a (levels_of v))) (sym (on_within v.cr v.fc v.start v.end v.accum d (omega arith) (c.fits-w 12)))

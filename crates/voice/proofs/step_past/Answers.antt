@@ -12,5 +12,5 @@ pub returns : goal.returns
 unfolding after_step
 returns c =
     let v = voice_of c.args.w.now in
-    let e : c.step-p.result ≡ stepped v.cr v.fc v.start v.end v.accum = c.step-p.ensures.0 ∙ rw (c.requires.cr_value.0, c.requires.fc_value.0, c.requires.fc_value.1) in
+    let e : c.step-p.result ≡ stepped v.cr v.fc v.start v.end v.accum = c.step-p.ensures.0 in
     place_stored c.args.w.now c.told-w c.step-p.result ∙ ap (λ (a : Place). words_of (moved v a (levels_of v))) e

@@ -46,7 +46,7 @@ pub pan-right-requires-clause-volume_bound : goal.pan-right-requires-clause-volu
 pan-right-requires-clause-volume_bound c = (leveled _ _ c.pass-o4.ensures.words (ranges_lent c.in-Some.ensures.cases.same c.requires.ranges)).rvol
 
 pub step-requires : goal.step-requires
-step-requires c = (control_kept _ _ c.pass-o4.ensures.words, (ranges_lent c.in-Some.ensures.cases.same c.requires.ranges).cr)
+step-requires c = rw (← control_kept _ _ c.pass-o4.ensures.words) (ranges_lent c.in-Some.ensures.cases.same c.requires.ranges).cr
 
 pub ramps-requires : goal.ramps-requires
 ramps-requires c =
