@@ -25,6 +25,8 @@ pub const VOICES: usize = 32;
 
 pub const VOICE_WORDS: usize = 20;
 
+// Words are numbers, by which the definitions name them: `w[K1]` reads as a cast of an enum would.
+
 /// The words of a voice, from its first.
 pub const CR: usize = 0;
 
@@ -104,6 +106,7 @@ pub const WAIT_MASK: usize = 663;
 pub const SHARED_WORDS: usize = 24;
 
 /// What the interrupt vector holds where it names no voice.
+// A number and no Option: it stands in the record, and is part of the C interface.
 pub const NO_INTERRUPT: u32 = 128;
 
 /// The greatest pot value, which PAR also holds after a reset and once it is read.

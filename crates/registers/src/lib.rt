@@ -144,6 +144,8 @@ fn decode(page: u32, r: u32) -> Register
 
 // x, cut to the bits kept, in a register that can be written. The others take nothing: their writes
 // end in the latch.
+// `Inside` is a clause here, at `load` and of `decode`'s answer, and no fact of `Register`: what
+// `decode` answers is `register_of`, and the theorems (`named`) speak of its plain cases.
 #[tactic(auto, using(machine::proofs::Valid::valid_long, crate::proofs::Valid::valid_stored, crate::proofs::Valid::valid_sum), unfolding(crate::specs::Registers::stored, machine::specs::Words::cut))]
 fn store(machine: &mut Machine, register: Register, x: u32)
     requires { Inside register }

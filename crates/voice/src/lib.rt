@@ -33,6 +33,9 @@ pub struct Addend {
 /// A turn of the voice whose words are w, at the slow-ramp counter slow, over the lent sample
 /// memory; None where the voice is stopped. How many words of that memory it misses is added to
 /// `missing`.
+// `Ranges` is a clause here, at `pass` and at `last_outputs`: as a fact of a type it would be owed
+// at each of a turn's nineteen writes. That `missing` has room is a clause of each function that it
+// is lent to: it is the caller's sum, and no part of a voice or of its memory.
 pub fn turn(w: &mut [u32], slow: u32, samples: &Samples, missing: &mut u32) -> Option<Addend>
     requires w_len { length w.old ≡ VOICE_WORDS }
     requires ranges { Ranges (voice_of w.old) }
