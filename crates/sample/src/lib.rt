@@ -7,10 +7,11 @@ ghost use Rattle.numbers.specs.Numbers.{Bits};
 ghost use Rattle.sample.specs.Sample.{as_word, word_at, fetched, missing_of, sample_of, fraction, interpolated, BANK_WORDS as Sample-as-BANK_WORDS};
 ghost use Rattle.sample.specs.Lasts.{last_of, Lasts};
 
-/// How many words a bank has, and how many the memory may have at most: four banks.
+/// How many words a bank has.
 pub const BANK_WORDS: u32 = 2097152;
 
-pub const MOST_MEMORY_WORDS: usize = 4 * 2097152;
+/// How many words the memory may have at most: four banks.
+pub const MOST_MEMORY_WORDS: usize = 4 * BANK_WORDS as usize;
 
 /// What one sample is in START, END and ACCUM.
 pub const WHOLE_SAMPLE: u32 = 2048;
