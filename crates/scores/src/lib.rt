@@ -218,6 +218,8 @@ fn all_below(kind: u8, commands: &[u8]) -> bool
 // ---- what is heard of a frame
 
 // Of six values on one side: their sum without its four lowest bits, held to 16 bits.
+// Six names and no iterator's `sum`: of that it stays open that each partial sum fits, since the
+// library's laws of sums are of unsigned numbers. Six terms show it by themselves.
 fn heard(a: i32, b: i32, c: i32, d: i32, e: i32, f: i32) -> u16
     ensures { result ≡ word 16 (heard_of (a +ℤ b +ℤ c +ℤ d +ℤ e +ℤ f)) }
 {
