@@ -196,6 +196,7 @@ pub fn check(m: &[u32]) -> Result<(), Refusal>
     let kept = VOICE_BITS;
     let shared = SHARED_BITS;
     let mut stray = [0; 4];
+    // Four groups of four words, by number: the groups are of a voice's words, and lie in all voices.
     for g in 0..4 {
         look_at_four(m, 4 * g, &kept, &mut stray);
     }
@@ -267,7 +268,8 @@ fn gather(m: &[u32; RECORD_WORDS], j: usize) -> u32
 
 // The mask that the control registers make. From the last voice down each flag joins those above
 // it, which move up; all stand where CR has its flag until they are in, since a flag that stays
-// where it is takes one instruction less.
+// where it is takes one instruction less. By a voice's number, as the mask has it: over the voices'
+// parts it is no plainer, and costs the same.
 fn gather_flags(m: &[u32; RECORD_WORDS]) -> u32
     ensures { result ≡ waiting_voices m.now }
 {

@@ -11,7 +11,7 @@ ghost use Rattle.sample.specs.Lasts.{last_of, Lasts};
 pub const BANK_WORDS: u32 = 2097152;
 
 /// How many words the memory may have at most: four banks.
-pub const MOST_MEMORY_WORDS: usize = 4 * BANK_WORDS as usize;
+pub const MOST_MEMORY_WORDS: usize = 4 * 2097152;
 
 /// What one sample is in START, END and ACCUM.
 pub const WHOLE_SAMPLE: u32 = 2048;
