@@ -196,7 +196,7 @@ pub fn check(m: &[u32]) -> Result<(), Refusal>
     let kept = VOICE_BITS;
     let shared = SHARED_BITS;
     let mut stray = [0; 4];
-    // Four groups of four words, by number: the groups are of a voice's words, and lie in all voices.
+    // Groups of four of a voice's words, by number: each group lies in all voices, and is no slice.
     for g in 0..4 {
         look_at_four(m, 4 * g, &kept, &mut stray);
     }

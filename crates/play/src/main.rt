@@ -20,8 +20,8 @@ use std::io::{self, Eprint, Write};
 
 // One byte more than a score may have is read, so that a longer one is seen. Nothing is written
 // before the whole score is known to be good.
-// An array and how much of it was read, and no `Vec` that `read_to_end` fills: the programs ask for
-// no memory, and a read that a signal interrupts ends this one, where `read_to_end` begins it again.
+// An array and how much of it was read, and no `Vec` that `read_to_end` fills: no memory is asked
+// for, and a read that a signal interrupts ends the program, where `read_to_end` begins it again.
 fn main(rt: HostRuntime) -> io::Result<()> {
     let mut input = [0; 65537];
     let n = streams::read_full(&mut rt.reader(), &mut input)?;

@@ -57,8 +57,8 @@ impl<'a> Samples<'a> {
     }
 
     /// The two words that the voice is at; None for one that is not there.
-    // That CR has 16 bits is a clause here, at `interpolate` and at `address::step`: a type would be
-    // made of the voice's word at each call, and owe the same there.
+    // That CR has 16 bits is a clause here, at `interpolate` and at `address::step`: a type of it
+    // would be made of the voice's word at each call, and owe the same there.
     pub fn fetch(&self, cr: u32, accum: u32) -> (Option<u16>, Option<u16>)
         requires { cr < 65536 }
         ensures first { as_word result.0 ≡ (fetched self.now.memory.now cr accum).first }

@@ -20,8 +20,8 @@ use repeats::COMMAND_BYTES;
 use scores::Command;
 use std::io::{self, Write};
 
-// An array and how much of it was read, and no `Vec` that `read_to_end` fills: the programs ask for
-// no memory, and a read that a signal interrupts ends this one, where `read_to_end` begins it again.
+// An array and how much of it was read, and no `Vec` that `read_to_end` fills: no memory is asked
+// for, and a read that a signal interrupts ends the program, where `read_to_end` begins it again.
 fn main(rt: HostRuntime) -> io::Result<()> {
     let mut input = [0; scores::MOST_BYTES];
     let n = streams::read_full(&mut rt.reader(), &mut input)?;

@@ -48,8 +48,8 @@ fn take_argument(rt: &(impl Files + Print + Eprint), name: &[u8]) -> io::Result<
 }
 
 // The file of a name. One byte more than an import takes is read, so that a longer file is seen.
-// An array and how much of it was read, and no `Vec` that `read_to_end` fills: the programs ask for
-// no memory, and a read that a signal interrupts ends this one, where `read_to_end` begins it again.
+// An array and how much of it was read, and no `Vec` that `read_to_end` fills: no memory is asked
+// for, and a read that a signal interrupts ends the program, where `read_to_end` begins it again.
 fn take(rt: &(impl Files + Print + Eprint), name: &str) -> io::Result<()> {
     let mut source = match fs::open(rt, name) {
         Ok(source) => source,
