@@ -169,6 +169,7 @@ pub enum ScoreError {
 
 /// Where the score is good, its commands stand in full at the start of `full` then; else what
 /// stands there says nothing.
+// The room is lent, and no `Vec` handed back: so it needs no allocator.
 #[tactic(auto, using(crate::proofs::Judged::too_long, crate::proofs::Judged::no_memory, crate::proofs::Judged::cut, crate::proofs::Judged::too_many))]
 pub fn judge(score: &[u8], full: &mut [u8]) -> Result<(), ScoreError>
     requires { length full.old ≡ MOST_FULL_BYTES }
