@@ -1,5 +1,5 @@
 -- `scores::heard` meets its contract: six numbers of 32 bits add up in 64, and a shift is the division that rounds down. Assumes nothing.
-use Rattle.std.proofs.Common.{arith, ◌≡◌, sym, ap, subst, ◌∙◌, ◌+◌, ◌*◌, ◌/◌, ◌^◌, w32, w64, ℤ, pos, ◌+ℤ◌, to_z, of_z}
+use Rattle.std.proofs.Common.{arith, ◌≡◌, sym, ap, subst, ◌∙◌, ◌*◌, ◌^◌, w32, w64, ℤ, pos, ◌+ℤ◌, to_z, of_z}
 use lib.Signed.{mag}
 use mir.Val.{SFits}
 use Prim.Native.Nat.{◌<◌}
