@@ -23,7 +23,7 @@ pub enum Refusal {
     OutputLength,
     #[error("fewer than five voices are active")]
     TooFewVoices,
-    #[error("the file is too long or no RIFF/WAVE, or something runs past what it is in")]
+    #[error("the file is too long, is no RIFF/WAVE, or has a part that runs past its end")]
     FileBroken,
     #[error("there is no format chunk or no data chunk, or two of one")]
     ChunkCount,
@@ -34,12 +34,12 @@ pub enum Refusal {
     #[error("the loop is not within the samples, ends before it starts, or is of no known type")]
     LoopInvalid,
     /// Memory or a bank that ends before the samples do, or an END that its register does not hold.
-    #[error("the samples do not fit in the memory or the bank, or END not in its register")]
+    #[error("the samples do not fit in the memory or the bank, or END does not fit its register")]
     NoPlace,
 }
 
 /// The number of what a call answers, for hosts: 0 where it is done, whatever it gives.
-// The numbers are the hosts', and leave out 8 to 19: a match, as the definition is.
+// The numbers are those of the C interface, and no part of a refusal: a match, as in the rule.
 pub fn number<T: Drop>(answer: Result<T, Refusal>) -> u32
     ensures { result ≡ answer_number (answer_of answer) }
 {

@@ -21,6 +21,7 @@ pub enum Ask {
 /// The call that is asked, and the number that it gives: a read its byte, `Waiting` the mask of the
 /// waiting voices, a frame how many words were missing; any other 0. Only a frame looks at the
 /// sample memory and the output.
+// 0 and no Option: that is `given_by`, which is a number for every call.
 pub fn perform(m: &mut [u32], ask: Ask, memory: &[u16], out: &mut [i32]) -> Result<u32, Refusal>
     ensures { Performs m.old memory.now out.old ask (answer_of result) (value_or 0 result) m.new out.new }
 {

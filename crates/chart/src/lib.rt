@@ -11,6 +11,7 @@ ghost use Rattle.chart.specs.Chart.{number, line, lines, chart_answer, chart_out
 /// The chart of the input, at the start of the output: answers how many bytes of it the chart is.
 /// An output that has less than nine bytes for each byte of input is no room: it is as it was, and
 /// the answer is none.
+// The room is lent, and no `Vec` handed back: so it needs no allocator.
 pub fn chart(input: &[u8], out: &mut [u8]) -> Option<usize>
     ensures value { result ≡ chart_answer input.now out.old }
     ensures out_after { out.new ≡ chart_output input.now out.old }

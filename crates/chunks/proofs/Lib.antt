@@ -1,6 +1,5 @@
 pub mod Told
 pub mod Headed
-pub mod Names
 pub mod Reached
 pub mod Row
 pub mod Named

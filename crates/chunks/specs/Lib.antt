@@ -1,3 +1,4 @@
 pub mod Chunks
 pub mod Row
 pub mod Walk
+pub mod Kind

@@ -5,6 +5,7 @@
 
 ghost use Rattle.std.specs.Prelude.{◌≡◌, ◌+◌, ◌≤◌, length};
 ghost use Rattle.layout.specs.Bytes.{little4_at as Bytes-as-little4_at};
+ghost use Rattle.chunks.specs.Kind.{kind_of};
 ghost use Rattle.chunks.specs.Walk.{opened_of, reach_of};
 
 /// How many bytes a file may have at most.
@@ -24,14 +25,12 @@ const RIFF: u32 = 0x4646_4952;
 
 const WAVE: u32 = 0x4556_4157;
 
-/// "fmt ": what the samples are.
-pub const FORMAT: u32 = 0x2074_6d66;
+// "fmt ", "data" and "smpl".
+const FORMAT: u32 = 0x2074_6d66;
 
-/// "data": the samples.
-pub const DATA: u32 = 0x6174_6164;
+const DATA: u32 = 0x6174_6164;
 
-/// "smpl": how a sampler plays them.
-pub const SAMPLER: u32 = 0x6c70_6d73;
+const SAMPLER: u32 = 0x6c70_6d73;
 
 /// A chunk: its name, the place of its first byte in the file, and how many bytes it has.
 // No letters and no slice: the rules of a file (`named`, `samples_of`, `InFile`) and the theorem of
@@ -41,6 +40,34 @@ pub struct Chunk {
     pub name: u32,
     pub place: usize,
     pub size: usize,
+}
+
+/// What a chunk holds.
+#[derive(Clone, Copy, Debug, PartialEq, Eq)]
+pub enum Kind {
+    /// What the samples are.
+    Format,
+    /// The samples.
+    Data,
+    /// How a sampler plays them.
+    Sampler,
+    /// Nothing that is read.
+    Other,
+}
+
+impl Chunk {
+    /// What it holds, by its name.
+    #[tactic(auto, unfolding(layout::specs::Bytes::little))]
+    pub fn kind(self) -> Kind
+        ensures { result ≡ kind_of self.name }
+    {
+        match self.name {
+            FORMAT => Kind::Format,
+            DATA => Kind::Data,
+            SAMPLER => Kind::Sampler,
+            _ => Kind::Other,
+        }
+    }
 }
 
 /// The byte up to which a file's chunks go; none where it is too long, no RIFF/WAVE, or shorter

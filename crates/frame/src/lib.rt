@@ -69,6 +69,7 @@ fn play(m: &mut Machine, memory: &[u16]) -> u32
     let slow = m.words[machine::SLOW];
     let last = m.words[machine::ACTV] as usize;
     let mut missing = 0;
+    // By number: the voice's part, the sums and the mask, where its bit is, change in one turn.
     for v in 0..=last {
         turn(m.words, v, slow, &samples, &mut missing);
     }
@@ -94,6 +95,8 @@ fn turn(m: &mut [u32], v: usize, slow: u32, samples: &Samples, missing: &mut u32
 }
 
 // What a turn adds goes to the sums of its channel; channels 6 and 7 are none.
+// The record's length and the ranges are clauses here and below: between a turn's writes the record
+// is no `Machine`, and the sides of an addend have the range that `volume::pan` promises of each.
 fn add(m: &mut [u32], addend: Option<Addend>)
     requires m_len { length m.old ≡ RECORD_WORDS }
     requires by_index { (i : ℕ) → i < OUTPUT_VALUES → get_or m.old (SUMS + i) 0 < 8388608 }
@@ -182,6 +185,7 @@ fn put_out(sums: &[u32; machine::OUTPUT_VALUES], out: &mut [i32])
     requires by_index { (i : ℕ) → i < OUTPUT_VALUES → get_or sums.now i 0 < 8388608 }
     ensures { out.new ≡ map put_out sums.now }
 {
+    // By number: a proof knows nothing of what a `zip` with the values to be changed goes over.
     for (i, value) in out.iter_mut().enumerate() {
         *value = channel::put_out(sums[i]);
     }

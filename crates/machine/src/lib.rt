@@ -25,7 +25,8 @@ pub const VOICES: usize = 32;
 
 pub const VOICE_WORDS: usize = 20;
 
-// Words are numbers, by which the definitions name them: `w[K1]` reads as a cast of an enum would.
+// Words are numbers, as the definitions have them: of an enum each would be a cast, `w[Word::K1 as
+// usize]`.
 
 /// The words of a voice, from its first.
 pub const CR: usize = 0;

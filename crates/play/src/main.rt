@@ -77,6 +77,7 @@ fn render<W: Write>(
 ) -> io::Result<()>
     ensures { OnOk result (Appends (W.contents file.old) (W.contents file.new) (heard_from m.old (left_from memory.now commands.now 0 0))) }
 {
+    // One array for all parts, each of which fills some of it: no memory is asked for.
     let mut part = part_buffer();
     let mut position = Position::default();
     let mut played: u64 = 0;

@@ -77,6 +77,8 @@ fn check_within(m: &[u32], limit: u32, number: u32, beyond: Refusal) -> Result<(
 }
 
 // Byte k of register r is written.
+// The two numbers go together from here to `decode`, `with_byte` and `byte`, which take one each: a
+// type of both would be made twice, of an address that was checked, and taken apart at once.
 #[tactic(auto, using(machine::proofs::Valid::valid_long, crate::proofs::Valid::valid_write_latch), unfolding(crate::specs::Registers::written_to))]
 fn write_byte(machine: &mut Machine, r: u32, k: u32, b: u8)
     requires { (r < 16) × (k < 4) }

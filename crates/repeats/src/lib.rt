@@ -37,7 +37,8 @@ fn asked(command: [u8; COMMAND_BYTES]) -> usize
     COMMAND_BYTES * usize::from(command[3])
 }
 
-// Whether it repeats others, where so many bytes in full stand before it.
+// Whether it repeats others, where so many bytes in full stand before it. (A truth and no range to
+// be copied: bytes in full are counted by it too, where there is nothing to copy.)
 #[tactic(auto, unfolding(crate::specs::Repeats::repeats_at))]
 fn repeats_others(command: [u8; COMMAND_BYTES], before: usize) -> bool
     ensures { result ≡ repeats_at command 0 before }

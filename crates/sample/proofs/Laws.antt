@@ -7,9 +7,9 @@ use mathlib.Core.List.{List}
 use Prim.Native.Nat.{ℕ, suc, ◌+◌, ◌-◌, ◌*◌, ◌/◌, ◌%◌, ◌<◌, ◌≤◌}
 use native.Mathlib.Nat.{mul-le-mul_left, mul-le-mul_right, le_of_lt}
 use native.Mathlib.Omega.{arith}
-use borrow.Author.Tests.{lt-ltb}
+use borrow.Author.Tests.{lt-ltb, le-ltb}
 use lib.Dec.{lit<, ltb}
-use lib.ListN.{length, get_or}
+use lib.ListN.{length, get_or, get_or-eq_default}
 use mir.Syntax.{w16}
 use mir.Val.{to_z, sel}
 use lib.IntN.{ℤ, pos, negsuc, ◌+ℤ◌, ◌-ℤ◌, ◌*ℤ◌}
@@ -18,7 +18,7 @@ use Rattle.numbers.proofs.Difference.{◌⊖◌, is_neg, ⊖_eq, ⊖-add, ⊖-su
 use Rattle.numbers.proofs.Words.{biased, bits-⊖, floor_up, pos-sub}
 use Rattle.codes.specs.Codes.{value_of}
 use Rattle.control.specs.Control.{flag_of, bank_of, CMPD}
-use Rattle.sample.specs.Sample.{Words, MOST_MEMORY_WORDS, word_at, first_at, second_at, sample_of, fetched, missing_of, interpolated}
+use Rattle.sample.specs.Sample.{MemoryWord, Words, MOST_MEMORY_WORDS, word_at, first_at, second_at, sample_of, fetched, missing_of, interpolated}
 use Rattle.sample.specs.Lasts.{last_of, Lasts}
 
 -- the value between two samples that are moved up to be no numbers below zero
@@ -90,6 +90,17 @@ below_last n b i l h g e k = let f = l.each b h in (omega arith, omega arith)
 -- a word of the memory that is there
 pub word_there : (memory : List ℕ) (i : ℕ) → i < length memory → record { bits = get_or memory i 0; there = true } ≡ word_at memory i
 word_there memory i h = ap (λ (t : Bool). record { bits = get_or memory i 0; there = t }) (sym (lt-ltb i _ (omega arith)))
+
+-- one that is not
+pub word_missing : (memory : List ℕ) (i : ℕ) → length memory ≤ i → record { bits = 0; there = false } ≡ word_at memory i
+word_missing memory i h =
+    let b : 0 ≡ get_or memory i 0 = sym (get_or-eq_default memory 0 h) in
+    let t : false ≡ ltb i (length memory) = sym (le-ltb i _ (omega arith)) in
+    λ j. record { bits = b j; there = t j }
+
+-- two words of a fetch
+pub same_words : {a b c d : MemoryWord} → a ≡ b → c ≡ d → ◌≡◌ {A = Words} (record { first = a; second = c }) (record { first = b; second = d })
+same_words e f = λ i. record { first = e i; second = f i }
 
 pub one_most : (there : Bool) → cond there 0 1 ≤ 1
 one_most true = omega arith

@@ -27,12 +27,15 @@ use Rattle.scores.specs.Score.{command_of, command_at, command_no, times_of, fra
 use Rattle.scores.specs.declared.Command.{Command}
 use Rattle.calls.specs.declared.Ask.{Ask}
 
+-- a command by its own bytes is the one that stands where they stand
+pub command_part : (xs : List ℕ) (i : ℕ) → command_at (part xs i COMMAND_BYTES) 0 ≡ command_at xs i
+command_part xs i = λ j. command_of (own_kind xs i j) (own_number xs i j) (own_byte xs i j)
+
 module _ (xs : List ℕ) (chunks : List (List ℕ)) (front : chunks ≡ first_chunks COMMAND_BYTES (command_count xs) xs) where
   pub command_own : (k : ℕ) → k < command_count xs → command_at (get_or chunks k []) 0 ≡ command_no xs k
   command_own k h =
       let i = COMMAND_BYTES * k in
-      ap (λ (c : List ℕ). command_at c 0) (command_is xs chunks k front h)
-      ∙ (λ j. command_of (own_kind xs i j) (own_number xs i j) (own_byte xs i j))
+      ap (λ (c : List ℕ). command_at c 0) (command_is xs chunks k front h) ∙ command_part xs i
 
   -- the frames of one command more
   pub frames_next : (n k r : ℕ) (c : Command) → k < command_count xs → n ≡ sum k (λ j. frames_of (command_no xs j)) → c ≡ command_at (get_or chunks k []) 0

@@ -1,15 +1,14 @@
 -- One call as the code makes it is what is promised of it: a frame, whose values are put as four bytes, and any other, of which nothing is heard.
 -- In order: which asks are for a frame; that a frame leaves twelve values (`call_long`); the two cases (`a_frame`, `another`). Assumes nothing.
 use mathlib.Core.Path.{◌≡◌, refl, sym, ap, ◌∙◌}
-use mathlib.Core.Bool.{true, false, cond, false≢true}
-use mathlib.Core.List.{List, [], ◌∷◌}
+use mathlib.Core.Bool.{true, false, false≢true}
+use mathlib.Core.List.{List, []}
 use Prim.Native.Nat.{ℕ}
 use native.Mathlib.Nat.{add-zero}
 use lib.IntN.{ℤ}
-use lib.ListN.{length, get_or, take-append-drop}
+use lib.ListN.{length, take-append-drop}
 use Rattle.numbers.proofs.Tests.{split}
 use Rattle.layout.specs.Parts.{with_part}
-use Rattle.layout.specs.Bytes.{little_bytes}
 use Rattle.answer.specs.Answer.{Answer, is_done}
 use Rattle.answer.proofs.Refusals.{is_done_lem}
 use Rattle.machine.specs.Words.{OUTPUT_VALUES}

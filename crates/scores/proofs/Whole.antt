@@ -19,7 +19,7 @@ use Rattle.calls.specs.Calls.{Call, after, run, outputs}
 use Rattle.calls.specs.Asks.{call_of}
 use Rattle.calls.specs.declared.Ask.{Ask}
 use Rattle.repeats.specs.Repeats.{command_count}
-use Rattle.scores.specs.Score.{silence, command_no, calls_of, calls_from, commands_of, all_calls, score_calls, is_frame_ask, frames_of, all_frames, score_frames}
+use Rattle.scores.specs.Score.{silence, command_no, calls_of, calls_from, commands_of, all_calls, score_calls, frames_of, all_frames, score_frames}
 use Rattle.scores.specs.Sound.{SAMPLE_BYTES, sample_bytes, sound_of}
 use Rattle.scores.specs.Playing.{left_from, is_frame, frames_in, heard_from, first_record, score_sound, heard_at, Plays, Part, PlaysAll, parts_heard}
 use Rattle.scores.specs.declared.Command.{Command}

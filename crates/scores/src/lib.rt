@@ -169,6 +169,7 @@ pub enum ScoreError {
 
 /// Where the score is good, its commands stand in full at the start of `full` then; else what
 /// stands there says nothing.
+// The room is lent, and no `Vec` handed back: so it needs no allocator.
 #[tactic(auto, using(crate::proofs::Judged::too_long, crate::proofs::Judged::no_memory, crate::proofs::Judged::cut, crate::proofs::Judged::too_many))]
 pub fn judge(score: &[u8], full: &mut [u8]) -> Result<(), ScoreError>
     requires { length full.old ≡ MOST_FULL_BYTES }
@@ -226,7 +227,12 @@ fn all_below(kind: u8, commands: &[u8]) -> bool
 fn heard(a: i32, b: i32, c: i32, d: i32, e: i32, f: i32) -> u16
     ensures { result ≡ word 16 (heard_of (a +ℤ b +ℤ c +ℤ d +ℤ e +ℤ f)) }
 {
-    let sum = a as i64 + b as i64 + c as i64 + d as i64 + e as i64 + f as i64;
+    let sum = i64::from(a)
+        + i64::from(b)
+        + i64::from(c)
+        + i64::from(d)
+        + i64::from(e)
+        + i64::from(f);
     numbers::word_of(16, numbers::hold(-32768, 32767, (sum >> 4) as i32)) as u16
 }
 

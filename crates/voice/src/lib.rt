@@ -35,7 +35,9 @@ pub struct Addend {
 /// `missing`.
 // `Ranges` is a clause here, at `pass` and at `last_outputs`: as a fact of a type it would be owed
 // at each of a turn's nineteen writes. That `missing` has room is a clause of each function that it
-// is lent to: it is the caller's sum, and no part of a voice or of its memory.
+// is lent to: it is the caller's sum, and no part of a voice or of its memory. So are the ranges of
+// numbers that go from crate to crate, as the 16 bits of CR and of a level and the 18 of an output:
+// a type of each width would be made where a word is read, and owe the same there, at each call.
 pub fn turn(w: &mut [u32], slow: u32, samples: &Samples, missing: &mut u32) -> Option<Addend>
     requires w_len { length w.old ≡ VOICE_WORDS }
     requires ranges { Ranges (voice_of w.old) }

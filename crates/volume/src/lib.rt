@@ -14,5 +14,5 @@ pub fn pan(volume: u32, o4: i32) -> i32
     ensures { (result ≡ panned volume o4) × Within 1048576 result }
 {
     let gain = (16 * (256 + volume / 16 % 256)) << (volume / 4096);
-    (((o4 >> 2) as i64 * gain as i64) >> 24) as i32
+    ((i64::from(o4 >> 2) * i64::from(gain)) >> 24) as i32
 }

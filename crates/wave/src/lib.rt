@@ -11,7 +11,7 @@ ghost use Rattle.chunks.specs.Chunks.{chunks_from, FIRST_CHUNK as Chunks-as-FIRS
 ghost use Rattle.wave.specs.Wave.{is_short, is_mono16, is_sampler_short, FORMAT_BYTES as Wave-as-FORMAT_BYTES};
 ghost use Rattle.wave.specs.Parse.{first_kept, kept_more, with_chunk, once_both, collected_of, parsed_of, first_sampler_short_of, loop_of_kept, InFile, FirstInFile};
 
-use chunks::Chunk;
+use chunks::{Chunk, Kind};
 
 // Bytes that a format chunk has at least, and a sampler chunk; and those of each loop after them.
 const FORMAT_BYTES: usize = 16;
@@ -89,12 +89,12 @@ impl Found {
         ensures full { result ≡ cond (is_short c) None (Some tt) }
         ensures kept { self.new ≡ cond (is_short c) self.old (with_chunk c self.old) }
     {
-        match c.name {
-            chunks::FORMAT if c.size < FORMAT_BYTES => return None,
-            chunks::FORMAT => self.format.add(c),
-            chunks::DATA => self.pcm.add(c),
-            chunks::SAMPLER => self.sampler.add(c),
-            _ => {}
+        match c.kind() {
+            Kind::Format if c.size < FORMAT_BYTES => return None,
+            Kind::Format => self.format.add(c),
+            Kind::Data => self.pcm.add(c),
+            Kind::Sampler => self.sampler.add(c),
+            Kind::Other => {}
         }
         Some(())
     }
@@ -132,7 +132,7 @@ fn collect(file: &[u8], end: usize) -> Option<Found>
 // ---- the format
 
 // `InFile` is a clause of the three that read a chunk: a type of a file and a chunk would owe the
-// same where it is made, in each call, as `Piece::of(file, c).is_mono16()`.
+// same where it is made, and it would be made in each call.
 
 /// Whether the samples are PCM of 16 bits and one channel.
 #[tactic(auto, using(layout::proofs::Endian::little_2_at), unfolding(crate::specs::Wave::is_mono16))]

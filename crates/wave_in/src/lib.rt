@@ -26,6 +26,7 @@ use wave::Loop;
 const GREATEST_REGISTER: usize = 4294967295;
 
 /// What an import gives. Without a loop START, END and the bits are 0.
+// Zeros and no Option: these are the four numbers of the C interface.
 #[derive(Clone, Copy, Debug, Default, PartialEq, Eq)]
 pub struct Taken {
     /// START and END, within the bank.
@@ -160,6 +161,8 @@ fn copy(words: &mut [u16], bytes: &[u8])
     ensures { words.new ≡ twos little bytes.now }
 {
     let (pairs, _) = bytes.as_chunks::<2>();
+    // By number, as in `scores::fill`, which reads the other order: a proof knows nothing of what a
+    // `zip` with the words to be changed goes over.
     for (i, word) in words.iter_mut().enumerate() {
         *word = u16::from_le_bytes(pairs[i]);
     }

@@ -1,5 +1,6 @@
 -- `chart::chart` meets its contract: without room it does nothing, and with room it stores the chart,
 -- which fits. Assumes nothing.
+-- A walk and no answers: both clauses stay open at each of three returns, and an answer there would be named after the limit 65536, which an edit changes.
 use mathlib.Core.Path.{◌≡◌, refl, ap, ◌∙◌}
 use mathlib.Core.List.{List, ◌++◌}
 use Prim.Native.Nat.{ℕ, ◌*◌, ◌<◌, ◌≤◌}

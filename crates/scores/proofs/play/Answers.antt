@@ -1,13 +1,12 @@
 -- One call more, or one command; and the end of it: by the laws of `Playing`.
-use Rattle.std.proofs.Common.{◌≡◌, Bool, true, false, cond, sym, refl, subst, ap, ◌∙◌, arith, rules, Fits, w32, ℕ, ◌+◌, ◌<◌}
+use Rattle.std.proofs.Common.{◌≡◌, Bool, true, false, cond, sym, refl, ap, ◌∙◌, arith, rules, ℕ}
 use Rattle.std.specs.Int.{from_bool}
 use Rattle.std.specs.Result.{is_err}
 use Rattle.std.specs.Prelude.{Result, Ok, Err}
 use Rattle.answer.specs.Answer.{is_done, answer_of}
 use Rattle.answer.specs.declared.Refusal.{Refusal}
-use Rattle.calls.specs.Calls.{Call}
 use Rattle.calls.specs.Asks.{call_of}
-use Rattle.scores.specs.Score.{silence, times_of}
+use Rattle.scores.specs.Score.{silence}
 use Rattle.scores.specs.Playing.{is_frame}
 use Rattle.scores.proofs.Commands.{command_own, command_few}
 use Rattle.scores.proofs.Making.{asks_frame, call_long}

@@ -1,6 +1,5 @@
 -- The calls that are made and those that are left come to what all of them do (`Going`).
 use Rattle.std.proofs.Common.{◌≡◌, ◌≤◌, ◌+◌, ◌-◌, ◌/◌, length}
-use Rattle.repeats.specs.Repeats.{command_count}
 use Rattle.scores.specs.Score.{command_no, times_of}
 use Rattle.scores.specs.Sound.{SAMPLE_BYTES}
 use Rattle.scores.specs.Playing.{left_from}
