@@ -20,6 +20,8 @@ pub struct Place {
 }
 
 /// ACCUM and the control register after the step.
+// The five registers go on together to `forward` or `reverse`, and no further: a type of them would
+// be made of a voice's words for that one step.
 pub fn step(cr: u32, fc: u32, start: u32, end: u32, accum: u32) -> Place
     requires { cr < 65536 }
     ensures { (result ≡ stepped cr fc start end accum) × (result.cr < 65536) }

@@ -68,6 +68,9 @@ pub fn filter(cr: u32, k1: u32, k2: u32, x: i32, p: Poles) -> Poles
     }
 }
 
+// x, xp and yp are the rule's own: what goes into a pole, what went in before, and what came out.
+// In a struct the formulas would not read as the rule's.
+
 // Pole 3, of the kind that LP4 and LP3 say: two tests, which an enum of the four kinds would only
 // make once more.
 #[tactic(auto, unfolding(crate::specs::Filter::pole3, crate::specs::Filter::pole4))]

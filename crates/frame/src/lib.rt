@@ -31,6 +31,8 @@ const CHANNELS: u32 = 6;
 
 /// One frame: twelve values in channel order, left before right. Gives how many words of sample
 /// memory its running voices asked for and missed.
+// The record and the memory are two loans, one to be changed and one to be looked at, which the C
+// interface hands over one by one.
 pub fn frame(m: &mut [u32], memory: &[u16], out: &mut [i32]) -> Result<u32, Refusal>
     ensures { Frames m.old memory.now out.old (answer_of result) (value_or 0 result) m.new out.new }
 {

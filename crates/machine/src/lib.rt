@@ -192,8 +192,8 @@ pub fn check(m: &[u32]) -> Result<(), Refusal>
     ensures { result ≡ checked m.now }
 {
     let m: &[u32; RECORD_WORDS] = m.as_array().ok_or(Refusal::RecordLength)?;
-    // Lent from a copy, the tables go into the code: a check is 486 instructions, and 543 where it
-    // reads them as they lie.
+    // Lent from a copy, the tables go into the code: where they are read as they lie, a call that
+    // does no more than this check takes 543 instructions, and not 487.
     let kept = VOICE_BITS;
     let shared = SHARED_BITS;
     let mut stray = [0; 4];
@@ -283,6 +283,8 @@ fn gather_flags(m: &[u32; RECORD_WORDS]) -> u32
 }
 
 /// The mask is true of every other voice than v, whose flag is b now: it is made true.
+// The record's length and the voice's number are asked here: as long as its mask is not true the
+// record is no `Machine`.
 #[tactic(auto, unfolding(crate::specs::Words::with_mask))]
 pub fn mark(m: &mut [u32], v: usize, b: bool)
     requires m_len { length m.old ≡ Words-as-RECORD_WORDS }

@@ -292,6 +292,7 @@ pub struct Played {
 }
 
 /// Plays on from a position: as many calls as the sound has room for, if each were a frame.
+// The sound is lent, and how many frames of it are filled is told: no memory is asked for.
 pub fn play(
     m: &mut [u32],
     memory: &[u16],
