@@ -1,7 +1,7 @@
 -- Each call's own promise is that of the call as a value, also where the call gives a result that was mapped. Assumes nothing.
 use Rattle.std.specs.Prelude.{Result, Ok, Err}
 use Rattle.std.specs.Result.{MatchResult, IsOkAnd}
-use mathlib.Core.Path.{◌≡◌, refl, sym, subst}
+use mathlib.Core.Path.{◌≡◌, refl, sym, subst, ap}
 use mathlib.Core.List.{List}
 use Prim.Native.Nat.{ℕ}
 use lib.IntN.{ℤ}
@@ -68,3 +68,16 @@ module _ {m memory later : List ℕ} {out sound : List ℤ} {ask : Ask} (s : Res
       at (Ok x) (Ok y) h p = rw (q x y h) p
       at (Ok x) (Err e) h p = absurd h
       at (Err e) s h p = rw h p
+
+-- a result s that is r
+pub same_result : {m memory later : List ℕ} {out sound : List ℤ} {ask : Ask} (s r : Result ℕ Refusal)
+    → s ≡ r → Performs m memory out ask (answer_of r) (value_or 0 r) later sound
+    → Performs m memory out ask (answer_of s) (value_or 0 s) later sound
+same_result s r e p = rw e p
+
+-- a result s that is r with its value mapped to itself is r
+pub mapped_same : (s r : Result ℕ Refusal) (P : ℕ → ℕ → Type 0)
+    → MatchResult r (λ x. IsOkAnd s (P x)) (λ e. s ≡ Err e) → ((x y : ℕ) → P x y → y ≡ x) → s ≡ r
+mapped_same (Ok y) (Ok x) P h q = ap Ok (q x y h)
+mapped_same (Err e) (Ok x) P h q = absurd h
+mapped_same s (Err e) P h q = h

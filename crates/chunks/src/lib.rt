@@ -105,8 +105,9 @@ pub fn chunk_at(file: &[u8], end: usize, at: usize) -> Option<(Chunk, usize)>
     (next <= end).then_some((Chunk { name, place, size }, next))
 }
 
-// A number of four bytes, the lowest first.
-#[tactic(auto, using(layout::proofs::Endian::little_4_at))]
+// A number of four bytes, the lowest first. The laws of bytes one by one are named too, so that a
+// body that takes them so is judged by its value.
+#[tactic(auto, using(layout::proofs::Endian::little_4, layout::proofs::Endian::little_4_at, layout::proofs::Bytes::part_4))]
 fn number_at(file: &[u8], at: usize) -> u32
     requires { at + 4 ≤ length file.now }
     ensures { result ≡ Bytes-as-little4_at file.now at }

@@ -27,13 +27,16 @@ big_2 a b = omega arith
 -- ---- at a place of a list
 
 pub little_2_at : (xs : List ℕ) (i : ℕ) → i + 2 ≤ length xs → from_le_bytes w16 (part xs i 2) ≡ little2_at xs i
-little_2_at xs i h = rw (part_2 xs i h) (little_2 _ _)
+unfolding little big
+little_2_at xs i h = rw (part_2 xs i h) (omega arith)
 
 pub little_4_at : (xs : List ℕ) (i : ℕ) → i + 4 ≤ length xs → from_le_bytes w32 (part xs i 4) ≡ little4_at xs i
-little_4_at xs i h = rw (part_4 xs i h) (little_4 _ _ _ _)
+unfolding little
+little_4_at xs i h = rw (part_4 xs i h) (omega arith)
 
 pub big_2_at : (xs : List ℕ) (i : ℕ) → i + 2 ≤ length xs → from_be_bytes w16 (part xs i 2) ≡ big2_at xs i
-big_2_at xs i h = rw (part_2 xs i h) (big_2 _ _)
+unfolding little big
+big_2_at xs i h = rw (part_2 xs i h) (omega arith)
 
 -- ---- the bytes of a number
 

@@ -1,20 +1,20 @@
 -- A command by its own four bytes, as the code has it, and as it stands in a list of them.
 -- In order: the arrays that are commands (`command_is`); what a command says, and what it stands for,
--- by its own bytes (`own_kind`, `own_number`, `own_byte`, `own_asked`, `own_repeats`, `own_stands`); its number of two bytes (`number_is`). Assumes
--- nothing.
+-- by its own bytes (`own_kind`, `own_number`, `own_byte`, `own_asked`, `own_repeats`, `own_stands`); its number of two bytes (`number_is`);
+-- its four bytes (`bytes_are`). Assumes nothing.
 use mathlib.Core.Path.{◌≡◌, refl, sym, ap, ◌∙◌}
-use mathlib.Core.List.{List, []}
+use mathlib.Core.List.{List, [], ◌∷◌}
 use Prim.Native.Nat.{ℕ, ◌+◌, ◌*◌, ◌<◌}
 use native.Mathlib.Nat.{add-zero}
 use native.Mathlib.Omega.{arith}
 use lib.ListN.{length, get_or, take, drop}
-use lib.Seq.{drop-drop}
+use lib.Seq.{drop-drop, take_all}
 use Rattle.std.specs.Simd.{first_chunks}
 use Rattle.std.proofs.lemmas.List.{drop-take, take-take}
 use Rattle.layout.specs.Parts.{part}
 use Rattle.layout.specs.Bytes.{big, big2_at}
 use Rattle.layout.proofs.Parts.{part_at, chunk_is}
-use Rattle.layout.proofs.Bytes.{part_2}
+use Rattle.layout.proofs.Bytes.{part_2, part_4}
 use Rattle.layout.proofs.Endian.{big_2}
 use Rattle.repeats.specs.Repeats.{COMMAND_BYTES, command_count, kind_at, number_at, byte_at, back_at, asked_at, repeats_at, stands_for}
 
@@ -51,3 +51,7 @@ module _ (xs : List ℕ) (i : ℕ) where
 -- the number, of its two bytes
 pub number_is : (command : List ℕ) → length command ≡ COMMAND_BYTES → get_or command 1 0 * 256 + get_or command 2 0 ≡ big2_at command 1
 number_is command h = big_2 (get_or command 1 0) (get_or command 2 0) ∙ ap big (sym (part_2 command 1 (omega arith)))
+
+-- its four bytes, one by one
+pub bytes_are : (command : List ℕ) → length command ≡ COMMAND_BYTES → get_or command 0 0 ∷ get_or command 1 0 ∷ get_or command 2 0 ∷ get_or command 3 0 ∷ [] ≡ command
+bytes_are command h = sym (part_4 command 0 (omega arith)) ∙ take_all COMMAND_BYTES command (omega arith)

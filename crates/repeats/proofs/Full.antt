@@ -65,9 +65,9 @@ module _ (full command : List ℕ) (n : ℕ) (whole : length command ≡ COMMAND
   pub itself_long : false ≡ repeats_at command 0 n → COMMAND_BYTES ≡ length (stands_for (take n full) command 0)
   itself_long f = sym (stands_bytes ∙ rw (sym f) refl)
 
-  pub stands_itself : false ≡ repeats_at command 0 n → with_part full n command ≡ with_part full n (stands_for (take n full) command 0)
+  pub stands_itself : false ≡ repeats_at command 0 n → (later : List ℕ) → later ≡ with_part full n command → later ≡ with_part full n (stands_for (take n full) command 0)
   unfolding stands_for
-  stands_itself f = rw (before_long, ← f, take_all COMMAND_BYTES command (omega arith)) refl
+  stands_itself f later e = e ∙ rw (before_long, ← f, take_all COMMAND_BYTES command (omega arith)) refl
 
 -- ---- one command more
 
@@ -76,12 +76,12 @@ unfolding full_to
 full_next xs k = rw (add-one k) refl
 
 -- of a command that the code has as its bytes
-pub full_length : (xs : List ℕ) (k n r : ℕ) (command : List ℕ) → k < command_count xs → command ≡ part xs (COMMAND_BYTES * k) COMMAND_BYTES
-    → n ≡ length (full_to xs k) → r ≡ cond (repeats_at command 0 n) (asked_at command 0) COMMAND_BYTES → n + r ≡ length (full_to xs (k + 1))
-full_length xs k n r command h own e v =
+pub full_length : (xs : List ℕ) (k n before r : ℕ) (command : List ℕ) → k < command_count xs → command ≡ part xs (COMMAND_BYTES * k) COMMAND_BYTES
+    → n ≡ length (full_to xs k) → before ≡ n → r ≡ cond (repeats_at command 0 before) (asked_at command 0) COMMAND_BYTES → n + r ≡ length (full_to xs (k + 1))
+full_length xs k n before r command h own e b v =
     let i = COMMAND_BYTES * k in
     let stands : r ≡ length (stands_for (full_to xs k) xs i) =
-    v ∙ rw (own, own_repeats xs i n, own_asked xs i, e) (sym (stands_length (full_to xs k) xs i (omega arith))) in
+    v ∙ ap (λ (w : ℕ). cond (repeats_at command 0 w) (asked_at command 0) COMMAND_BYTES) b ∙ rw (own, own_repeats xs i n, own_asked xs i, e) (sym (stands_length (full_to xs k) xs i (omega arith))) in
     rw (full_next xs k, length-append (full_to xs k) (stands_for (full_to xs k) xs i)) (λ j. e j + stands j)
 
 full_grows : (xs : List ℕ) (k n : ℕ) → length (full_to xs k) ≤ length (full_to xs (n + k))

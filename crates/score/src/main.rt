@@ -12,13 +12,17 @@
 ghost use Rattle.std.specs.Prelude.{◌≤◌, length, OnOk};
 ghost use Rattle.std.specs.Io.KnownBytes.{Appends};
 ghost use Rattle.scores.specs.Score.{MOST_BYTES, MEMORY_BYTES};
-ghost use Rattle.score.specs.Values.{values_text};
+ghost use Rattle.score.specs.Values.{value_text, values_text};
 
 use answer::Refusal;
+use arrayvec::ArrayVec;
 use calls::Ask;
 use repeats::COMMAND_BYTES;
 use scores::Command;
 use std::io::{self, Write};
+
+// A space, a sign and the digits of 64 bits.
+const FIELD_BYTES: usize = 21;
 
 // An array and how much of it was read, and no `Vec` that `read_to_end` fills: no memory is asked
 // for, and a read that a signal interrupts ends the program, where `read_to_end` begins it again.
@@ -82,8 +86,7 @@ fn put_answer<W: Write>(out: &mut W, ask: Ask, answer: Result<u32, Refusal>) -> 
     let number = answer::number(answer);
     write!(out, "{number}")?;
     if let Ask::Read(_) | Ask::Waiting | Ask::Frame = ask {
-        let given = answer.unwrap_or(0);
-        write!(out, " {given}")?;
+        put_field(out, i64::from(answer.unwrap_or(0)))?;
     }
     Ok(())
 }
@@ -93,7 +96,17 @@ fn put_values<W: Write>(out: &mut W, values: &[i32]) -> io::Result<()>
     ensures { OnOk result (Appends (W.contents out.old) (W.contents out.new) (values_text values.now)) }
 {
     for value in values {
-        write!(out, " {value}")?;
+        put_field(out, i64::from(*value))?;
     }
     Ok(())
+}
+
+// A number after a space, handed on at once: a device that takes a write whole or not at all holds
+// whole fields of a line.
+fn put_field<W: Write>(out: &mut W, number: i64) -> io::Result<()>
+    ensures { OnOk result (Appends (W.contents out.old) (W.contents out.new) (value_text number)) }
+{
+    let mut field = ArrayVec::<u8, FIELD_BYTES>::new();
+    write!(field, " {number}")?;
+    out.write_all(field.as_slice())
 }

@@ -85,11 +85,3 @@ pub command_few : (xs : List ℕ) (k : ℕ) → k < command_count xs → ((j : �
 command_few xs k h bytes =
     let i = COMMAND_BYTES * k in
     omega (arith, times_few (kind_at xs i) (number_at xs i) (byte_at xs i), number_few xs i (omega arith) bytes)
-
--- ---- the words of the memory, in arrays of two bytes
-
-pub word_is : (score : List ℕ) (words : List (List ℕ)) (i : ℕ) → words ≡ first_chunks 2 (length score / 2) score → i < length score / 2
-    → from_be_bytes w16 (get_or words i []) ≡ big2_at score (2 * i)
-word_is score words i front h =
-    let own : get_or words i [] ≡ part score (2 * i) 2 = rw front (chunk_is 2 (length score / 2) score i h) in
-    ap (from_be_bytes w16) own ∙ big_2_at score (2 * i) (omega arith)

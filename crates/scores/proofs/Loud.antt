@@ -56,3 +56,10 @@ module _ (sound : List ℕ) (chunks : List (List ℕ)) (front : chunks ≡ first
   pub loudest_is : fold (λ most sample. max most (nat_abs (cast_signed w16 (from_le_bytes w16 sample)))) before chunks ≡ loudest_of sound (length sound / 2) before
   unfolding louder
   loudest_is = ap (fold louder before) (sym (take-length chunks) ∙ ap (λ (n : ℕ). take n chunks) long) ∙ loud_to (length sound / 2) (omega arith)
+
+-- and where the arrays are of a list that is the sound
+pub loudest_of_same : (sound xs : List ℕ) (chunks : List (List ℕ)) → chunks ≡ first_chunks 2 (length xs / 2) xs → length chunks ≡ length xs / 2 → xs ≡ sound
+    → ((i : ℕ) → Fits w8 (get_or sound i 0)) → (before : ℕ)
+    → fold (λ most sample. max most (nat_abs (cast_signed w16 (from_le_bytes w16 sample)))) before chunks ≡ loudest_of sound (length sound / 2) before
+loudest_of_same sound xs chunks front long same bytes before =
+    loudest_is sound chunks (front ∙ ap (λ (ys : List ℕ). first_chunks 2 (length ys / 2) ys) same) (long ∙ ap (λ (ys : List ℕ). length ys / 2) same) bytes before

@@ -123,11 +123,8 @@ pub fn fill(memory: &mut [u16], score: &[u8])
     requires { 2 * length memory.old ≤ length score.now }
     ensures { Filled (length memory.old) score.now memory.new }
 {
-    // A WAVE file's samples are read by the same two lines, the lowest byte first: one function for
-    // both would be handed the order, and be no shorter.
-    let (words, _) = score.as_chunks::<2>();
     for (i, word) in memory.iter_mut().enumerate() {
-        *word = u16::from_be_bytes(words[i]);
+        *word = u16::from_be_bytes(layout::array_at(score, 2 * i));
     }
 }
 

@@ -1,15 +1,12 @@
 -- A record that the check does not refuse has a mask.
-use Rattle.std.proofs.Common.{rules, ◌≡◌, arith, sym}
+use Rattle.std.proofs.Common.{rules, ◌≡◌, sym}
 use Rattle.answer.specs.Answer.{Done}
 use Rattle.machine.specs.Check.{checked}
-use Rattle.machine.proofs.Answers.{not_refused, waiting_err, waiting_done}
+use Rattle.machine.proofs.Answers.{waiting_err, waiting_done}
 use Rattle.machine.proofs.waiting.Goals as goal
 
 pub returns-in_err-check : goal.returns-in_err-check
 returns-in_err-check c = waiting_err _ _ c.in_err-check.field-0.0 (search rules) (search rules)
-
-pub bounds-m-663 : goal.bounds-m-663
-bounds-m-663 c = let done : checked c.args.m.now ≡ Done = search rules in omega (arith, (not_refused _ done).size)
 
 pub returns : goal.returns
 returns c = let done : checked c.args.m.now ≡ Done = search rules in waiting_done _ (sym done)

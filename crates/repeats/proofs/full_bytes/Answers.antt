@@ -12,6 +12,6 @@ pub loop-command-preserved : goal.loop-command-preserved
 loop-command-preserved c =
     let own = command_is c.args.commands.now _ c.loop-command.command-index c.as_chunks.ensures.front (omega arith) in
     record {
-      passed = full_length c.args.commands.now c.loop-command.command-index _ _ _ (omega arith) own c.loop-command.invariant.passed c.stands_bytes-n.ensures.value;
+      passed = full_length c.args.commands.now c.loop-command.command-index _ _ _ _ (omega arith) own c.loop-command.invariant.passed (omega arith) c.stands_bytes-n.ensures.value;
       few = omega arith;
     }

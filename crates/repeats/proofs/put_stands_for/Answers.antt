@@ -1,5 +1,6 @@
 -- What a command stands for, put by one of two calls: by the laws of `Full`.
 use Rattle.std.proofs.Common.{sym, ◌∙◌, arith}
+use Rattle.repeats.proofs.Command.{bytes_are}
 use Rattle.repeats.proofs.Full.{there, again_long, stands_again, itself_long, stands_itself}
 use Rattle.repeats.proofs.put_stands_for.Goals as goal
 
@@ -37,4 +38,4 @@ returns-else-repeats_others-clause-value c = itself_long c.args.full.now c.args.
 
 pub returns-else-repeats_others-clause-full_after : goal.returns-else-repeats_others-clause-full_after
 returns-else-repeats_others-clause-full_after c =
-    c.put4.ensures ∙ stands_itself c.args.full.now c.args.command c.args.n (omega arith) c.requires c.if-repeats_others.ensures
+    stands_itself c.args.full.now c.args.command c.args.n (omega arith) c.requires c.if-repeats_others.ensures _ (grind (arith, bytes_are))

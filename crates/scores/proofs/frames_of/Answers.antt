@@ -12,7 +12,7 @@ loop-command-init c = record { counted = refl; few = omega arith }
 pub loop-command-preserved : goal.loop-command-preserved
 loop-command-preserved c =
     record {
-      counted = frames_next c.args.commands.now _ c.as_chunks.ensures.front _ c.loop-command.command-index _ _ (omega arith) c.loop-command.invariant.counted c.from.ensures c.frames-n.ensures.value;
+      counted = frames_next c.args.commands.now _ c.as_chunks.ensures.front _ c.loop-command.command-index _ _ (omega arith) c.loop-command.invariant.counted (cc) c.frames-n.ensures.value;
       few = omega arith;
     }
 

@@ -10,7 +10,12 @@ pub bounds-self-at : goal.bounds-self-at
 bounds-self-at c = omega (arith, below_last _ _ (c.args.accum / 2048) c.args.self.now.last_words c.bank-bank.ensures.1 (omega arith) c.place-at.ensures c.if-at-last.true)
 
 pub bounds-self-at-then-at-last : goal.bounds-self-at-then-at-last
-bounds-self-at-then-at-last c = (below_last _ _ (c.args.accum / 2048) c.args.self.now.last_words c.bank-bank.ensures.1 (omega arith) c.place-at.ensures c.if-at-last.true).1
+bounds-self-at-then-at-last c =
+    let i = c.args.accum / 2048 in
+    omega (
+      arith,
+      below_last _ _ i c.args.self.now.last_words c.bank-bank.ensures.1 (omega arith) c.place-at.ensures c.if-at-last.true,
+    )
 
 pub returns-then-at-last-clause-first : goal.returns-then-at-last-clause-first
 unfolding fetched first_at
@@ -23,7 +28,9 @@ unfolding fetched second_at
 returns-then-at-last-clause-second c =
     let i = c.args.accum / 2048 in
     let n = below_last _ _ i c.args.self.now.last_words c.bank-bank.ensures.1 (omega arith) c.place-at.ensures c.if-at-last.true in
-    word_there _ _ n.1 ∙ ap (word_at c.args.self.now.memory.now) (n.0 ∙ ap (λ (x : ℕ). x * 2097152 + (i + 1) % 2097152) c.bank-bank.ensures.0)
+    word_there _ _ (omega (arith, n))
+    ∙ ap (word_at c.args.self.now.memory.now)
+    (omega arith ∙ n.0 ∙ ap (λ (x : ℕ). x * 2097152 + (i + 1) % 2097152) c.bank-bank.ensures.0)
 
 pub returns-clause-first : goal.returns-clause-first
 unfolding fetched first_at
