@@ -17,6 +17,7 @@ fail() {
 # Where there is no standard error, nothing is said.
 (: >&2) || exec 2> /dev/null
 
+kit=rattle-kit-13f
 here=$(CDPATH='' cd -- "$(dirname "$0")/.." && pwd -P)
 folder=$here/crates/$crate
 program=$folder/out/$crate
@@ -47,6 +48,11 @@ take() {
 
 build() {
     command -v rt > /dev/null || fail "the kit's command rt is not on the path"
+    version=$(rt version 2> /dev/null) || version=
+    case $version in
+    "$kit "*) ;;
+    *) fail "rt is of another kit than $kit: ${version:-it does not say of which}" ;;
+    esac
     can_write
     [ -x "$program" ] || echo "$name: the program is proved and built first" >&2
     (cd "$folder" && rt run < /dev/null > "$work/log" 2>&1) || {
@@ -75,6 +81,7 @@ run() {
 put() {
     status=0
     cat "$1" 2> "$work/error" || status=$?
+    [ "$status" -ne 141 ] || exit 0
     [ "$status" -le 128 ] || exit "$status"
     [ "$status" -eq 0 ] || fail "the output cannot be written"
 }

@@ -1,9 +1,10 @@
 //! Plays a score from standard input and writes what is heard of it as a WAVE file: stereo, 16
 //! bits, 31,250 samples a second.
 //! On standard error it says how far it is, and at the end the loudest sample and how many calls
-//! were refused. A score that is not good gives a line there and nothing else. What a score is, and
-//! what is heard of it, is the crate `scores`. A failed read or write of standard input or output
-//! ends the program with its error; what was written until then stands.
+//! were refused. A score that is not good gives a line there and nothing else, and the status 2.
+//! What a score is, and what is heard of it, is the crate `scores`. A failed read or write of
+//! standard input or output ends the program with its error and the status 1; what was written
+//! until then stands.
 #![tactic(auto)]
 
 ghost use Rattle.std.specs.Prelude.{◌≡◌, ◌*◌, ◌≤◌, ℕ, List, ◌++◌, length, take, OnOk};
@@ -17,20 +18,28 @@ ghost use Rattle.play.specs.Wave.{WritesSound};
 use repeats::COMMAND_BYTES;
 use scores::Position;
 use std::io::{self, Eprint, Write};
+use std::process::ExitCode;
+
+// The status where the score is not good.
+const NOT_GOOD: u8 = 2;
 
 // One byte more than a score may have is read, so that a longer one is seen. Nothing is written
 // before the whole score is known to be good.
 // An array and how much of it was read, and no `Vec` that `read_to_end` fills: no memory is asked
 // for, and a read that a signal interrupts ends the program, where `read_to_end` begins it again.
-fn main(rt: HostRuntime) -> io::Result<()> {
+fn main(rt: HostRuntime) -> io::Result<ExitCode> {
     let mut input = [0; 65537];
     let n = streams::read_full(&mut rt.reader(), &mut input)?;
     let score = &input[..n];
     let mut full = [0; scores::MOST_FULL_BYTES];
     match scores::judge(score, &mut full) {
-        Ok(()) => play(&rt, &mut io::writer(&rt), score, &full),
-        Err(error) => eprintln!(rt; "play: {error}"),
+        Ok(()) => play(&rt, &mut io::writer(&rt), score, &full)?,
+        Err(error) => {
+            eprintln!(rt; "play: {error}")?;
+            return Ok(ExitCode::from(NOT_GOOD));
+        }
     }
+    Ok(ExitCode::SUCCESS)
 }
 
 // A good score, whose commands stand in full at the start of `full`.
