@@ -26,7 +26,7 @@
  * call changes no word of the record or of sample memory and no value of the
  * output; a refused otto_read sets its byte to 0, a refused otto_frame its
  * number of missing words, a refused otto_waiting its mask, and a refused
- * otto_import its four numbers.
+ * otto_import its four numbers. otto_reason says an answer in words.
  */
 #ifndef OTTO_H
 #define OTTO_H
@@ -37,6 +37,18 @@
 #ifdef __cplusplus
 extern "C" {
 #endif
+
+/* ---- the version --------------------------------------------------------- */
+
+/*
+ * major * 10000 + minor * 100 + patch. A host that goes to another major number
+ * has to change its source or the records that it stored, or sounds otherwise;
+ * with another minor number there is something more to use. CHANGELOG.md says
+ * what. Headers before 6.1.0 have no number, and the library has none: a host
+ * is compiled with the header that came with the library that it links.
+ */
+#define OTTO_VERSION      60100
+#define OTTO_VERSION_TEXT "6.1.0"
 
 /* ---- sizes --------------------------------------------------------------- */
 
@@ -82,7 +94,9 @@ extern "C" {
  * listed are kept, and the others read as 0.
  *
  * OTTO_ADDRESS is the address of a register's byte, for otto_write and
- * otto_read. Byte 0 is the highest, bits 31 to 24, and byte 3 the lowest. What
+ * otto_read. Byte 0 is the highest, bits 31 to 24, and byte 3 the lowest. A
+ * register's number alone is an address too, that of a byte of registers 0 to
+ * 3, so no call and no compiler can tell where OTTO_ADDRESS was left out. What
  * the macros are given is unsigned.
  */
 #define OTTO_ADDRESS(number, byte) (4u * (number) + (byte))
@@ -110,9 +124,10 @@ extern "C" {
  *
  * K1 and K2 are 12 bits at the top, the other four as in a volume. In a low
  * pass 0xFFF0 lets nearly all through, and 0, which a reset leaves there,
- * nothing: a voice with K1 0, or with LP4 in CR and K2 0, is silent, while
- * every call answers 0. In a high pass 0xFFF0 is the lowest cutoff and 0 the
- * highest.
+ * nothing: the pole stands at its last output. So of a voice with K1 0, or with
+ * LP4 in CR and K2 0, no sample is heard, only what its filter words hold, 0
+ * after a reset, while every call answers 0. In a high pass 0xFFF0 is the
+ * lowest cutoff and 0 the highest.
  *
  * A ramp is a signed number, -128 to 127, in bits 15 to 8. While ECOUNT is not
  * 0, each frame of a running voice adds its ramp to each of LVOL, RVOL, K2 and
@@ -167,17 +182,19 @@ extern "C" {
 
 /*
  * A voice runs where both stop bits are 0. A frame first plays what is at ACCUM
- * and then goes on by FC. Where that passes END, or in reverse START, there is
- * a loop event:
+ * and then goes on by FC, up, or down in reverse. Where that would take it past
+ * END, or in reverse past START, by a number d, there is a loop event:
  *
- *   neither LPE nor BLE   it stops: STP0 is set, and ACCUM becomes END (START)
- *   LPE                   it goes on from START (END)
- *   BLE                   the same, once: BLE is cleared and LEI set
- *   LPE and BLE           it turns there and goes back: DIR changes
+ *                         ACCUM becomes
+ *                         up         down
+ *   neither LPE nor BLE   END        START      it stops: STP0 is set
+ *   LPE                   START + d  END - d    it loops
+ *   BLE                   START + d  END - d    once: BLE is cleared, LEI set
+ *   LPE and BLE           END - d    START + d  it turns: DIR changes
  *
- * By as much as it was past the one point it is then past the other, or on the
- * way back; the next test is in the next frame. With LEI there is no loop
- * event, whatever else is set.
+ * The new ACCUM is not tested in the same frame, even where d is so great that
+ * it is outside the loop. With LEI there is no loop event, whatever else is
+ * set.
  *
  * The four poles of the filter stand one behind the other. Poles 1 and 2 are
  * low passes with K1; the two bits decide over poles 3 and 4:
@@ -230,6 +247,78 @@ extern "C" {
 #define OTTO_WORD_SUMS        651u /* of channels 0 to 5, left then right */
 #define OTTO_WORD_WAITING     663u /* the waiting voices: see otto_waiting */
 
+/* ---- what compilers warn of ---------------------------------------------- */
+
+/*
+ * With -Wall gcc and clang warn of an answer that is not looked at, of a null
+ * pointer where none may be, and of a buffer with fewer values than the length
+ * after it says, as where that length is in bytes. gcc also warns of a buffer
+ * that is lent twice in one call, clang of a length, an address or a pot result
+ * that is always refused. They look at constants, and at objects by their
+ * names, where the call stands, so a call without a warning may be wrong still.
+ *
+ * A compiler may rely on what is declared, too. Where a pointer to a single
+ * value is lent it may leave out the host's own test of it for null, and of
+ * several calls of otto_compress or otto_expand with the same argument it may
+ * make one.
+ *
+ * The macros that say this to a compiler are undefined at the file's end. For
+ * other compilers they stand for nothing.
+ */
+#if defined(__GNUC__)
+#define OTTO_LOOK_AT       __attribute__((__warn_unused_result__))
+#define OTTO_NOT_NULL(n)   __attribute__((__nonnull__(n)))
+#define OTTO_BY_ARGUMENT   __attribute__((__const__))
+#define OTTO_MAY_BE_UNUSED __attribute__((__unused__))
+#define OTTO_RESTRICT      __restrict
+#if defined(__has_attribute)
+#if __has_attribute(__access__)
+#define OTTO_ACCESS(how)   __attribute__((__access__ how))
+#endif
+#if __has_attribute(__diagnose_if__)
+#define OTTO_WARN_IF(condition, text)                                         \
+    __attribute__((__diagnose_if__(condition, text, "warning")))
+#endif
+#endif
+#else
+#define OTTO_LOOK_AT
+#define OTTO_NOT_NULL(n)
+#define OTTO_BY_ARGUMENT
+#define OTTO_MAY_BE_UNUSED
+#define OTTO_RESTRICT
+#endif
+#ifndef OTTO_ACCESS
+#define OTTO_ACCESS(how)
+#endif
+#ifndef OTTO_WARN_IF
+#define OTTO_WARN_IF(condition, text)
+#endif
+
+/* Parameter n is a pointer to a single value, which the call writes. */
+#define OTTO_SINGLE(n) OTTO_NOT_NULL(n) OTTO_ACCESS((__write_only__, n))
+
+/* Parameter n is a pointer, and the next one its length. */
+#define OTTO_LENT(mode, n, pointer, length)                                   \
+    OTTO_ACCESS((mode, n, n + 1))                                             \
+    OTTO_WARN_IF(!pointer && length != 0,                                     \
+                 #pointer " is null, and " #length " is not 0")               \
+    OTTO_WARN_IF(length > __builtin_object_size(pointer, 0) / sizeof *pointer, \
+                 #pointer " has fewer values than " #length " says")
+
+#define OTTO_REFUSED_IF(condition)                                            \
+    OTTO_WARN_IF(condition, "always refused: " #condition)
+
+/* The record comes first. */
+#define OTTO_RECORD(mode)                                                     \
+    OTTO_LENT(mode, 1, record, words)                                         \
+    OTTO_REFUSED_IF(words != OTTO_RECORD_WORDS)
+
+/* clang would warn of an attribute that gcc lacks. */
+#if defined(__clang__)
+#pragma clang diagnostic push
+#pragma clang diagnostic ignored "-Wgcc-compat"
+#endif
+
 /* ---- the machine --------------------------------------------------------- */
 
 /*
@@ -240,7 +329,8 @@ extern "C" {
  *
  * Refusals: 1.
  */
-uint32_t otto_reset(uint32_t *record, size_t words);
+uint32_t otto_reset(uint32_t *record, size_t words)
+    OTTO_LOOK_AT OTTO_RECORD(__write_only__);
 
 /*
  * The host writes one byte, at OTTO_ADDRESS(register, byte). Bytes gather in a
@@ -251,7 +341,9 @@ uint32_t otto_reset(uint32_t *record, size_t words);
  * Refusals: 1, 2, 3.
  */
 uint32_t otto_write(uint32_t *record, size_t words, uint32_t address,
-                    uint8_t value);
+                    uint8_t value)
+    OTTO_LOOK_AT OTTO_RECORD(__read_write__)
+    OTTO_REFUSED_IF(address > 63u);
 
 /*
  * The host reads one byte, into *byte. Reading byte 0 takes the whole register
@@ -264,15 +356,19 @@ uint32_t otto_write(uint32_t *record, size_t words, uint32_t address,
  *
  * Refusals: 1, 2, 3.
  */
-uint32_t otto_read(uint32_t *record, size_t words, uint32_t address,
-                   uint8_t *byte);
+uint32_t otto_read(uint32_t *OTTO_RESTRICT record, size_t words,
+                   uint32_t address, uint8_t *OTTO_RESTRICT byte)
+    OTTO_LOOK_AT OTTO_RECORD(__read_write__) OTTO_SINGLE(4)
+    OTTO_REFUSED_IF(address > 63u);
 
 /*
  * Stores a result of the pot's converter, 0 to 1023, for the host to read.
  *
  * Refusals: 1, 2, 4.
  */
-uint32_t otto_set_pot(uint32_t *record, size_t words, uint32_t pot);
+uint32_t otto_set_pot(uint32_t *record, size_t words, uint32_t pot)
+    OTTO_LOOK_AT OTTO_RECORD(__read_write__)
+    OTTO_REFUSED_IF(pot > 1023u);
 
 /*
  * Runs one frame: a turn of each active voice. output takes twelve values of
@@ -297,9 +393,16 @@ uint32_t otto_set_pot(uint32_t *record, size_t words, uint32_t pot);
  *
  * Refusals: 1, 2, 7, 5, 6.
  */
-uint32_t otto_frame(uint32_t *record, size_t words, const uint16_t *memory,
-                    size_t memory_words, int32_t *output,
-                    size_t output_values, uint32_t *missing);
+uint32_t otto_frame(uint32_t *OTTO_RESTRICT record, size_t words,
+                    const uint16_t *OTTO_RESTRICT memory, size_t memory_words,
+                    int32_t *OTTO_RESTRICT output, size_t output_values,
+                    uint32_t *OTTO_RESTRICT missing)
+    OTTO_LOOK_AT OTTO_RECORD(__read_write__)
+    OTTO_LENT(__read_only__, 3, memory, memory_words)
+    OTTO_LENT(__write_only__, 5, output, output_values)
+    OTTO_SINGLE(7)
+    OTTO_REFUSED_IF(memory_words > OTTO_MOST_MEMORY_WORDS)
+    OTTO_REFUSED_IF(output_values != OTTO_OUTPUT_VALUES);
 
 /*
  * Which voices wait, as a mask: bit v is the IRQ bit of voice v, bit 7 of its
@@ -339,16 +442,18 @@ uint32_t otto_frame(uint32_t *record, size_t words, const uint16_t *memory,
  *
  * Refusals: 1, 2.
  */
-uint32_t otto_waiting(const uint32_t *record, size_t words, uint32_t *mask);
+uint32_t otto_waiting(const uint32_t *OTTO_RESTRICT record, size_t words,
+                      uint32_t *OTTO_RESTRICT mask)
+    OTTO_LOOK_AT OTTO_RECORD(__read_only__) OTTO_SINGLE(3);
 
 /* ---- compressed samples -------------------------------------------------- */
 
 /* The code with the greatest value that is not above the sample. The call takes
    the same instructions for every sample. */
-uint8_t otto_compress(int16_t sample);
+uint8_t otto_compress(int16_t sample) OTTO_LOOK_AT OTTO_BY_ARGUMENT;
 
 /* The value of a code. Compressed sample memory has codes in its high bytes. */
-int16_t otto_expand(uint8_t code);
+int16_t otto_expand(uint8_t code) OTTO_LOOK_AT OTTO_BY_ARGUMENT;
 
 /* ---- WAVE files ---------------------------------------------------------- */
 
@@ -408,9 +513,90 @@ int16_t otto_expand(uint8_t code);
  * The extensible format has another tag than 1: 22. A word above memory_words
  * is 24 even where there are no samples.
  */
-uint32_t otto_import(const uint8_t *file, size_t file_bytes, uint16_t *memory,
-                     size_t memory_words, size_t word, uint32_t *start,
-                     uint32_t *end, uint32_t *loop, uint32_t *samples);
+uint32_t otto_import(const uint8_t *OTTO_RESTRICT file, size_t file_bytes,
+                     uint16_t *OTTO_RESTRICT memory, size_t memory_words,
+                     size_t word, uint32_t *OTTO_RESTRICT start,
+                     uint32_t *OTTO_RESTRICT end, uint32_t *OTTO_RESTRICT loop,
+                     uint32_t *OTTO_RESTRICT samples)
+    OTTO_LOOK_AT OTTO_LENT(__read_only__, 1, file, file_bytes)
+    OTTO_LENT(__write_only__, 3, memory, memory_words)
+    OTTO_SINGLE(6) OTTO_SINGLE(7) OTTO_SINGLE(8) OTTO_SINGLE(9)
+    OTTO_REFUSED_IF(file_bytes > OTTO_MOST_FILE_BYTES)
+    OTTO_REFUSED_IF(memory_words > OTTO_MOST_MEMORY_WORDS)
+    OTTO_REFUSED_IF(word > memory_words);
+
+/* ---- answers in words ---------------------------------------------------- */
+
+/*
+ * An answer in words, for a message: a text that begins with no capital, ends
+ * with no full stop, and is not to be freed. Of a number that is no answer it
+ * says that. The function is here alone, not in the library, and in C from C99
+ * on. In C++ it is one function for all files, since otto.hpp's call it.
+ */
+#if defined(__cplusplus) ||                                                   \
+    (defined(__STDC_VERSION__) && __STDC_VERSION__ >= 199901L)
+#ifdef __cplusplus
+#define OTTO_INLINE inline
+#else
+#define OTTO_INLINE OTTO_MAY_BE_UNUSED static inline
+#endif
+OTTO_INLINE const char *otto_reason(uint32_t answer)
+{
+    switch (answer) {
+    case OTTO_DONE:
+        return "the call was done";
+    case OTTO_RECORD_LENGTH:
+        return "the record is not 664 words";
+    case OTTO_RECORD_INVALID:
+        return "a word of the record has a bit or value that it may not have, "
+               "or the mask of waiting voices is not true";
+    case OTTO_ADDRESS_ABOVE:
+        return "the byte address is above 63";
+    case OTTO_POT_ABOVE:
+        return "the pot result is above 1023";
+    case OTTO_MEMORY_LENGTH:
+        return "sample memory is longer than four banks";
+    case OTTO_OUTPUT_LENGTH:
+        return "the output is not 12 values";
+    case OTTO_TOO_FEW_VOICES:
+        return "ACTV is below 4, so that fewer than five voices are active";
+    case OTTO_FILE_BROKEN:
+        return "the file is longer than 65,536 bytes, is not RIFF/WAVE, or has "
+               "a part that ends too soon";
+    case OTTO_CHUNK_COUNT:
+        return "the file has no format chunk or no data chunk, or more than "
+               "one of them";
+    case OTTO_SAMPLE_FORMAT:
+        return "the file is not format tag 1 with one channel of 16 bits, or "
+               "its last sample lacks a byte";
+    case OTTO_LOOP_INVALID:
+        return "the file's loop has a point past the last sample, an end point "
+               "before its start point, or a type that is none of 0, 1, 2";
+    case OTTO_NO_PLACE:
+        return "sample memory or the bank ends before the samples do, or END "
+               "is more than its register holds";
+    default:
+        return "this number is no answer of the engine";
+    }
+}
+#endif
+
+#if defined(__clang__)
+#pragma clang diagnostic pop
+#endif
+
+#undef OTTO_LOOK_AT
+#undef OTTO_NOT_NULL
+#undef OTTO_BY_ARGUMENT
+#undef OTTO_MAY_BE_UNUSED
+#undef OTTO_INLINE
+#undef OTTO_RESTRICT
+#undef OTTO_ACCESS
+#undef OTTO_WARN_IF
+#undef OTTO_SINGLE
+#undef OTTO_LENT
+#undef OTTO_REFUSED_IF
+#undef OTTO_RECORD
 
 #ifdef __cplusplus
 }

@@ -1,9 +1,10 @@
 /*
- * header: that the register map of include/otto.h is the library's, and its
- * sizes, answers and bits the model's. Each register is written by its name
- * with all bits set; then the word of its name has the bits that the header
- * lists, no other word has changed, and the register reads as those bits, or
- * where it is a sum as 0.
+ * header VERSION CHANGELOG: that the register map of include/otto.h is the
+ * library's, its sizes, answers and bits the model's, and its version that of
+ * the two files. Each register is written by its name with all bits set; then
+ * the word of its name has the bits that the header lists, no other word has
+ * changed, and the register reads as those bits, or where it is a sum as 0.
+ * Each answer has words of its own, and no other number has any.
  */
 #include <stdio.h>
 #include <string.h>
@@ -24,19 +25,27 @@ SAME(OTTO_MOST_MEMORY_WORDS, MOST_MEMORY_WORDS);
 SAME(OTTO_MOST_FILE_BYTES, MOST_FILE_BYTES);
 SAME(OTTO_NO_VOICE, NO_INTERRUPT);
 
-SAME(OTTO_DONE, ANSWER_DONE);
-SAME(OTTO_RECORD_LENGTH, ANSWER_RECORD_LENGTH);
-SAME(OTTO_RECORD_INVALID, ANSWER_RECORD_INVALID);
-SAME(OTTO_ADDRESS_ABOVE, ANSWER_ADDRESS);
-SAME(OTTO_POT_ABOVE, ANSWER_POT);
-SAME(OTTO_MEMORY_LENGTH, ANSWER_MEMORY_LENGTH);
-SAME(OTTO_OUTPUT_LENGTH, ANSWER_OUTPUT_LENGTH);
-SAME(OTTO_TOO_FEW_VOICES, ANSWER_TOO_FEW_VOICES);
-SAME(OTTO_FILE_BROKEN, ANSWER_FILE_BROKEN);
-SAME(OTTO_CHUNK_COUNT, ANSWER_CHUNK_COUNT);
-SAME(OTTO_SAMPLE_FORMAT, ANSWER_SAMPLE_FORMAT);
-SAME(OTTO_LOOP_INVALID, ANSWER_LOOP_INVALID);
-SAME(OTTO_NO_PLACE, ANSWER_NO_PLACE);
+/* All answers, and what the model calls them. */
+#define ANSWERS(ANSWER)                                    \
+    ANSWER(OTTO_DONE, ANSWER_DONE)                         \
+    ANSWER(OTTO_RECORD_LENGTH, ANSWER_RECORD_LENGTH)       \
+    ANSWER(OTTO_RECORD_INVALID, ANSWER_RECORD_INVALID)     \
+    ANSWER(OTTO_ADDRESS_ABOVE, ANSWER_ADDRESS)             \
+    ANSWER(OTTO_POT_ABOVE, ANSWER_POT)                     \
+    ANSWER(OTTO_MEMORY_LENGTH, ANSWER_MEMORY_LENGTH)       \
+    ANSWER(OTTO_OUTPUT_LENGTH, ANSWER_OUTPUT_LENGTH)       \
+    ANSWER(OTTO_TOO_FEW_VOICES, ANSWER_TOO_FEW_VOICES)     \
+    ANSWER(OTTO_FILE_BROKEN, ANSWER_FILE_BROKEN)           \
+    ANSWER(OTTO_CHUNK_COUNT, ANSWER_CHUNK_COUNT)           \
+    ANSWER(OTTO_SAMPLE_FORMAT, ANSWER_SAMPLE_FORMAT)       \
+    ANSWER(OTTO_LOOP_INVALID, ANSWER_LOOP_INVALID)         \
+    ANSWER(OTTO_NO_PLACE, ANSWER_NO_PLACE)
+
+#define SAME_ANSWER(name, model) SAME(name, model);
+ANSWERS(SAME_ANSWER)
+
+#define NUMBER(name, model) name,
+static const uint32_t answers[] = { ANSWERS(NUMBER) };
 
 SAME(OTTO_CR_STP0, CR_STP0);
 SAME(OTTO_CR_STP1, CR_STP1);
@@ -201,8 +210,95 @@ static void check_on_every_page(uint32_t page)
     check("IRQV", get(OTTO_IRQV), OTTO_NO_VOICE);
 }
 
-int main(void)
+/* ---- answers in words ---------------------------------------------------- */
+
+static int is_answer(uint32_t number)
 {
+    for (size_t i = 0; i < sizeof answers / sizeof answers[0]; i++) {
+        if (answers[i] == number) {
+            return 1;
+        }
+    }
+    return 0;
+}
+
+/* That the words of an answer have the size that they speak of. */
+static void check_size(uint32_t answer, uint32_t size)
+{
+    char text[16];
+
+    (void)snprintf(text, sizeof text, " %u", (unsigned)size);
+    check_at("a size in words", answer, size,
+             strstr(otto_reason(answer), text) != NULL, 1);
+}
+
+static void check_words(void)
+{
+    const char *no_answer = otto_reason(UINT32_MAX);
+
+    for (uint32_t number = 0; number < 1000; number++) {
+        const char *words = otto_reason(number);
+
+        check_at("words of an answer", number, 0,
+                 strcmp(words, no_answer) != 0, is_answer(number));
+        for (uint32_t other = 0; other < number && is_answer(number); other++) {
+            check_at("words of another", number, other,
+                     strcmp(words, otto_reason(other)) != 0, 1);
+        }
+    }
+    check_size(OTTO_RECORD_LENGTH, OTTO_RECORD_WORDS);
+    check_size(OTTO_ADDRESS_ABOVE, OTTO_ADDRESS(OTTO_PAGE, 3u));
+    check_size(OTTO_OUTPUT_LENGTH, OTTO_OUTPUT_VALUES);
+    check_size(OTTO_TOO_FEW_VOICES, OTTO_LEAST_ACTV);
+}
+
+/* ---- the version --------------------------------------------------------- */
+
+/* The beginning of a file, as text; of a file that is not there, nothing. */
+static void read_text(const char *name, char *text, size_t size)
+{
+    FILE *file = fopen(name, "r");
+    size_t bytes = 0;
+
+    if (file == NULL) {
+        perror(name);
+    } else {
+        bytes = fread(text, 1, size - 1, file);
+        (void)fclose(file);
+    }
+    text[bytes] = '\0';
+}
+
+/* VERSION has one line, and the newest heading of the changelog is its first. */
+static void check_version(const char *version, const char *changelog)
+{
+    const char heading[] = "\n## " OTTO_VERSION_TEXT "\n";
+    char text[4096];
+    const char *newest;
+    int major = 0, minor = 0, patch = 0, length = 0;
+
+    read_text(version, text, sizeof text);
+    check("the version in VERSION", strcmp(text, OTTO_VERSION_TEXT "\n"), 0);
+    read_text(changelog, text, sizeof text);
+    newest = strstr(text, "\n## ");
+    check("and in the changelog",
+          newest != NULL && strncmp(newest, heading, strlen(heading)) == 0, 1);
+
+    check("three numbers", sscanf(OTTO_VERSION_TEXT, "%d.%d.%d%n", &major,
+                                  &minor, &patch, &length), 3);
+    check("and nothing more", OTTO_VERSION_TEXT[length], '\0');
+    check("the version as a number", OTTO_VERSION,
+          10000 * major + 100 * minor + patch);
+}
+
+int main(int words, char **word)
+{
+    if (words != 3) {
+        fprintf(stderr, "header VERSION CHANGELOG\n");
+        return 2;
+    }
+    check_version(word[1], word[2]);
+    check_words();
     for (uint32_t voice = 0; voice < OTTO_VOICES; voice++) {
         check_voice(voice);
         check_shared(voice);

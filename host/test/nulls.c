@@ -73,15 +73,18 @@ static void check_frames(void)
 
 static void check_other_calls(void)
 {
+    size_t none = 0; /* a variable: of a constant compilers warn */
+
     begin();
-    agree("a reset", otto_reset(NULL, 0), reference_reset(NULL, 0));
-    agree("a write", otto_write(NULL, 0, 3, 1), reference_write(NULL, 0, 3, 1));
-    agree("a pot value", otto_set_pot(NULL, 0, 5),
+    agree("a reset", otto_reset(NULL, none), reference_reset(NULL, 0));
+    agree("a write", otto_write(NULL, none, 3, 1),
+          reference_write(NULL, 0, 3, 1));
+    agree("a pot value", otto_set_pot(NULL, none, 5),
           reference_set_pot(NULL, 0, 5));
-    agree("a read", otto_read(NULL, 0, 3, &library.byte),
+    agree("a read", otto_read(NULL, none, 3, &library.byte),
           reference_read(NULL, 0, 3, &model.byte));
     begin();
-    agree("a mask", otto_waiting(NULL, 0, library.given),
+    agree("a mask", otto_waiting(NULL, none, library.given),
           reference_waiting(NULL, 0, model.given));
 }
 
