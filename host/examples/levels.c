@@ -96,6 +96,13 @@ static void show_cutoff(int hertz)
            (unsigned)high, decibels(hertz, OTTO_VOL_LOUDEST, high, HIGH));
 }
 
+/* What a high pass with the highest cutoff makes of a note. */
+static void show_highest(int hertz)
+{
+    printf("K2 0: %4d Hz %4.1f dB\n", hertz,
+           decibels(hertz, OTTO_VOL_LOUDEST, 0, HIGH));
+}
+
 int main(void)
 {
     for (int wanted = 0; wanted >= -40; wanted -= 10) {
@@ -107,5 +114,8 @@ int main(void)
     for (int hertz = 250; hertz <= 2000; hertz *= 2) {
         show_cutoff(hertz);
     }
+    show_highest(2045);
+    show_highest(4000);
+    show_highest(8000);
     return 0;
 }

@@ -7,14 +7,20 @@
 
 #include <stdio.h>
 #include <stdlib.h>
+#include <string.h>
 
 #include "otto.h"
 
-/* No call fails in a host that is right, so the first that does is shown. */
-static inline void must(uint32_t answer)
+/* No call is refused in a host that is right, so the first that is ends it, and
+   says which call it was and why. */
+#define must(call) must_be_done((call), #call)
+
+static inline void must_be_done(uint32_t answer, const char *call)
 {
     if (answer != OTTO_DONE) {
-        fprintf(stderr, "refused with %u\n", (unsigned)answer);
+        fprintf(stderr, "%.*s: refused with %u, %s\n",
+                (int)strcspn(call, "("), call, (unsigned)answer,
+                otto_reason(answer));
         exit(1);
     }
 }

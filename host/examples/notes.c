@@ -8,8 +8,10 @@
  *             released and stopped
  *   voice 2   a drum, played once, and started anew at its interrupt
  */
+#include <math.h>
 #include <string.h>
 
+#include "converter.h"
 #include "machine.h"
 
 #define RATE         31250u /* frames a second: 16 MHz / (16 x 32 voices) */
@@ -179,25 +181,23 @@ static uint32_t take_interrupt(void)
 
 /* ---- another rate -------------------------------------------------------- */
 
-/* Two frames, and how far the host is from the one to the other, in parts of
-   its own rate. */
-struct converter {
-    uint32_t rate;
-    uint32_t place;
-    int16_t before[2], after[2];
-};
+static struct converter converter;
 
-/* One sample at the host's rate, on the straight line between two frames. */
-static void convert(struct converter *c, int16_t heard[2])
+/* What an audio callback does: so many samples at the host's rate, of frames
+   that are run as they are due. */
+static void fill(int16_t (*heard)[2], size_t samples)
 {
-    for (int side = 0; side < 2; side++) {
-        int64_t rise = c->after[side] - c->before[side];
+    for (size_t i = 0; i < samples; i++) {
+        int16_t frame[2];
+        float sample[2];
 
-        heard[side] = (int16_t)(c->before[side] + rise * c->place / c->rate);
-    }
-    for (c->place += RATE; c->place >= c->rate; c->place -= c->rate) {
-        memcpy(c->before, c->after, sizeof c->before);
-        run_frame(c->after);
+        while (converter_is_due(&converter)) {
+            run_frame(frame);
+            converter_put(&converter, frame[0], frame[1]);
+        }
+        converter_take(&converter, sample);
+        heard[i][0] = held_to_16_bits((int32_t)lrintf(sample[0]));
+        heard[i][1] = held_to_16_bits((int32_t)lrintf(sample[1]));
     }
 }
 
@@ -375,19 +375,24 @@ static void withdraw(void)
     printf(", then %u\n", (unsigned)take_interrupt());
 }
 
-/* Plays a second at 48,000 samples, and says how many frames that took and how
-   loud it was. */
+/* Plays a second at 48,000 samples, in buffers of 480, and says how many frames
+   that took and how loud it was. */
 static void play_at_48000(void)
 {
-    struct converter converter = { .rate = 48000 };
     uint32_t before = frames;
     int16_t loudest = 0;
 
-    for (uint32_t i = 0; i < converter.rate; i++) {
-        int16_t heard[2];
+    if (!converter_start(&converter, RATE, 48000)) {
+        fprintf(stderr, "no converter to this rate\n");
+        exit(1);
+    }
+    for (int buffer = 0; buffer < 100; buffer++) {
+        int16_t heard[480][2];
 
-        convert(&converter, heard);
-        loudest = heard[0] > loudest ? heard[0] : loudest;
+        fill(heard, 480);
+        for (int i = 0; i < 480; i++) {
+            loudest = heard[i][0] > loudest ? heard[i][0] : loudest;
+        }
     }
     printf("48000 samples: %u frames, loudest %d\n",
            (unsigned)(frames - before), loudest);
