@@ -1,13 +1,16 @@
-# What the commands share. A command sets `name`, its own, and `crate`, that of its program, and then has:
+# What the commands share. A command sets `name`, its own, and `crate`, that of its program, and then
+# has:
 #   fail WORDS     a line on standard error, and the end
 #   work           a folder for files, which is gone at the end
-#   take MOST FILE..  the input into "$work/input": of FILE, or of standard input; at most so many bytes
+#   take MOST FILE..  the input into "$work/input": of FILE, or of standard input; at most so many
+#                  bytes
 #   build          the program, proved and no older than its sources
 #   run            the program
 #   put FILE       a file to standard output
 #   has_room       fails where no file can be written in the folder
-# The program is asked for by `rt run` on no input, which proves and builds it anew where a source has changed. It ends with a status that is not 0
-# where it cannot read or write, and but for standard error it does both in the folder.
+# The program is asked for by `rt run` on its stored input, which proves and builds it anew where a
+# source has changed. It ends with a status that is not 0 where it cannot read or write, and but for
+# standard error it does both in the folder.
 
 fail() {
     echo "$name: $*" >&2
@@ -55,7 +58,7 @@ build() {
     esac
     can_write
     [ -x "$program" ] || echo "$name: the program is proved and built first" >&2
-    (cd "$folder" && rt run < /dev/null > "$work/log" 2>&1) || {
+    (cd "$folder" && rt run < stdin > "$work/log" 2>&1) || {
         has_room
         cat "$work/log" >&2
         fail "the program could not be built"
