@@ -1,7 +1,7 @@
 -- The address step of a running voice: ACCUM moves by FC, and a loop point that it passes makes a loop event.
 -- In order: what an event leaves, by the loop mode, forward and in reverse; the step forward; the step in reverse; the step. Addresses are
 -- whole numbers until they are stored, in 32 bits, so a step past either end of the range is seen. Assumes nothing.
-use Rattle.std.specs.Prelude.{ℕ, Bool, true, false, cond, ◌||◌, not, ℤ, pos, ◌+ℤ◌, ◌-ℤ◌}
+use Rattle.std.specs.Prelude.{ℕ, Bool, true, false, if◌then◌else◌, ◌||◌, not, ℤ, pos, ◌+ℤ◌, ◌-ℤ◌}
 use Rattle.std.specs.Int.Signed.{le_z, lt_z}
 use Rattle.numbers.specs.Numbers.{word}
 use Rattle.control.specs.Control.{flag_of, with_bit, STP0, LEI, LPE, BLE, IRQE, DIR, IRQ}
@@ -9,7 +9,7 @@ use Rattle.address.specs.declared.Place.{Place}
 
 -- the control register after an event: its flag is set where the voice may interrupt
 unfoldable pub raised : ℕ → ℕ
-raised CR = cond (flag_of IRQE CR) (with_bit IRQ 1 CR) CR
+raised CR = if flag_of IRQE CR then with_bit IRQ 1 CR else CR
 
 -- An event forward, by the loop mode BLE, LPE; d is how far the target is past END. CR is `raised` already.
 --   0,0  stop at END, and set STP0
@@ -33,18 +33,16 @@ reverse_event true true CR START END d = record { accum = word 32 (pos START +�
 unfoldable pub forward : ℕ → ℕ → ℕ → ℕ → ℕ → Place
 forward CR FC START END ACCUM =
     let t = pos ACCUM +ℤ pos FC in
-    cond (flag_of LEI CR || le_z t (pos END))
-    (record { accum = word 32 t; cr = CR })
-    (forward_event (flag_of BLE CR) (flag_of LPE CR) (raised CR) START END (t -ℤ pos END))
+    if flag_of LEI CR || le_z t (pos END) then record { accum = word 32 t; cr = CR }
+    else forward_event (flag_of BLE CR) (flag_of LPE CR) (raised CR) START END (t -ℤ pos END)
 
 -- in reverse: no event where LEI is 1 or the target is not below START
 unfoldable pub reverse : ℕ → ℕ → ℕ → ℕ → ℕ → Place
 reverse CR FC START END ACCUM =
     let t = pos ACCUM -ℤ pos FC in
-    cond (flag_of LEI CR || not (lt_z t (pos START)))
-    (record { accum = word 32 t; cr = CR })
-    (reverse_event (flag_of BLE CR) (flag_of LPE CR) (raised CR) START END (pos START -ℤ t))
+    if flag_of LEI CR || not (lt_z t (pos START)) then record { accum = word 32 t; cr = CR }
+    else reverse_event (flag_of BLE CR) (flag_of LPE CR) (raised CR) START END (pos START -ℤ t)
 
 -- ACCUM and the control register after the step
 unfoldable pub stepped : ℕ → ℕ → ℕ → ℕ → ℕ → Place
-stepped CR FC START END ACCUM = cond (flag_of DIR CR) (reverse CR FC START END ACCUM) (forward CR FC START END ACCUM)
+stepped CR FC START END ACCUM = if flag_of DIR CR then reverse CR FC START END ACCUM else forward CR FC START END ACCUM

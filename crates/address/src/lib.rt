@@ -4,7 +4,7 @@
 //! the direction at the target, at the loop point and at the event.
 #![tactic(auto)]
 
-ghost use Rattle.std.specs.Prelude.{◌≡◌, ◌<◌, ◌≤◌, cond};
+ghost use Rattle.std.specs.Prelude.{◌≡◌, ◌<◌, ◌≤◌, if◌then◌else◌};
 ghost use Rattle.numbers.specs.Numbers.{Within, word};
 ghost use Rattle.address.specs.Address.{raised, stepped};
 ghost use Rattle.address.specs.Address.{forward as Address-as-forward, reverse as Address-as-reverse};
@@ -70,7 +70,7 @@ fn reverse(cr: u32, fc: u32, start: u32, end: u32, accum: u32) -> Place
 fn event(cr: u32, passed: u32, across: i64, back: i64, reverse: bool) -> Place
     requires within { Within 17179869184 across }
     requires within_2 { Within 17179869184 back }
-    ensures { result ≡ Event-as-event cr passed across back (cond reverse 1 0) }
+    ensures { result ≡ Event-as-event cr passed across back (if reverse then 1 else 0) }
 {
     let up = raise(cr);
     match control::loop_mode(cr) {

@@ -1,6 +1,6 @@
 -- A RIFF/WAVE file as its chunks, or unreadable.
 -- In order: the names; a chunk; the chunks from a place to the end; the file; the chunks of a name. Assumes nothing.
-use Rattle.std.specs.Prelude.{ℕ, zero, suc, ◌+◌, ◌%◌, Bool, true, false, cond, ◌&&◌, List, [], ◌∷◌, leb, ltb, eqb, length}
+use Rattle.std.specs.Prelude.{ℕ, zero, suc, ◌+◌, ◌%◌, Bool, true, false, if◌then◌else◌, ◌&&◌, List, [], ◌∷◌, nat_le, nat_lt, ◌==◌, length}
 use Rattle.layout.specs.Bytes.{little, little4_at}
 use Rattle.chunks.specs.declared.Chunk.{Chunk}
 
@@ -38,7 +38,7 @@ next c = c.place + (c.size + c.size % 2)
 
 -- its header, its bytes and its pad lie before the end
 unfoldable pub is_whole : List ℕ → ℕ → ℕ → Bool
-is_whole file end i = leb (i + HEADER_BYTES) end && leb (next (chunk_at file i)) end
+is_whole file end i = nat_le (i + HEADER_BYTES) end && nat_le (next (chunk_at file i)) end
 
 -- ---- the chunks from a place to the end
 
@@ -57,7 +57,7 @@ unfoldable pub chunks_from : ℕ → List ℕ → ℕ → ℕ → Listing
 chunks_from zero file end i = chunks []
 chunks_from (suc n) file end i =
     let rest = before (chunk_at file i) (chunks_from n file end (next (chunk_at file i))) in
-    cond (ltb i end) (cond (is_whole file end i) rest unreadable) (chunks [])
+    if nat_lt i end then (if is_whole file end i then rest else unreadable) else chunks []
 
 -- ---- the file: "RIFF", a length, "WAVE", and from byte 12 on chunks. The length counts from byte 8 on, and the file
 -- may go on behind it.
@@ -77,14 +77,14 @@ riff_end file = HEADER_BYTES + riff_length file
 -- not too long; RIFF, and WAVE within its length; not shorter than that length says
 unfoldable pub is_headed : List ℕ → Bool
 is_headed file =
-    leb (length file) MOST_FILE_BYTES
-    && (eqb (little4_at file 0) RIFF
-    && (eqb (little4_at file 8) WAVE
-    && (leb 4 (riff_length file)
-    && leb (riff_end file) (length file))))
+    nat_le (length file) MOST_FILE_BYTES
+    && (little4_at file 0 == RIFF
+    && (little4_at file 8 == WAVE
+    && (nat_le 4 (riff_length file)
+    && nat_le (riff_end file) (length file))))
 
 unfoldable pub listing : List ℕ → Listing
-listing file = cond (is_headed file) (chunks_from (riff_end file) file (riff_end file) FIRST_CHUNK) unreadable
+listing file = if is_headed file then chunks_from (riff_end file) file (riff_end file) FIRST_CHUNK else unreadable
 
 unfoldable pub is_unreadable : Listing → Bool
 is_unreadable unreadable = true
@@ -102,4 +102,4 @@ chunks_of file = chunks_in (listing file)
 
 unfoldable pub named : ℕ → List Chunk → List Chunk
 named n [] = []
-named n (c ∷ cs) = cond (eqb c.name n) (c ∷ named n cs) (named n cs)
+named n (c ∷ cs) = if c.name == n then c ∷ named n cs else named n cs

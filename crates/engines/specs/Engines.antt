@@ -1,7 +1,7 @@
 -- An engine as a host meets it: to each call, on what is lent, one outcome. In order: what can be lent; the engine; when it keeps the
 -- promises; the engine of the definitions; six ways in which an engine is wrong. Whether it keeps them and whether it is wrong is asked
 -- of what can be lent alone, since no code is ever lent anything else. Assumes nothing.
-use Rattle.std.specs.Prelude.{◌≡◌, true, false, List, [], ◌∷◌, ℕ, ◌^◌, ◌<◌, ℤ, pos, replicate}
+use Rattle.std.specs.Prelude.{◌≡◌, IsTrue, IsFalse, List, [], ◌∷◌, ℕ, ◌^◌, ◌<◌, ℤ, pos, replicate}
 use Rattle.numbers.specs.Numbers.{Bits}
 use Rattle.answer.specs.Answer.{Answer, is_done}
 use Rattle.machine.specs.Words.{OUTPUT_VALUES}
@@ -76,13 +76,13 @@ defined m memory out ask = record {
 -- ---- wrong engines
 
 abbrev pub RefusesAll : Engine → Type 0
-RefusesAll e = (m memory : List ℕ) (out : List ℤ) (ask : Ask) → Lent m memory out ask → is_done (e m memory out ask).answer ≡ false
+RefusesAll e = (m memory : List ℕ) (out : List ℤ) (ask : Ask) → Lent m memory out ask → IsFalse (is_done (e m memory out ask).answer)
 
 -- every frame that is done puts out zeros
 abbrev pub PutsOutZeros : Engine → Type 0
 PutsOutZeros e =
     (m memory : List ℕ) (out : List ℤ) → Lent m memory out Ask.Frame
-    → is_done (e m memory out Ask.Frame).answer ≡ true → (e m memory out Ask.Frame).sound ≡ replicate OUTPUT_VALUES (pos 0)
+    → IsTrue (is_done (e m memory out Ask.Frame).answer) → (e m memory out Ask.Frame).sound ≡ replicate OUTPUT_VALUES (pos 0)
 
 -- every frame says that no word was missing
 abbrev pub MissesNothing : Engine → Type 0

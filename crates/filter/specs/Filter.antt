@@ -1,6 +1,6 @@
 -- The four poles that a voice's samples pass, on whole numbers: the two kinds of pole, which kind the control register makes of
 -- poles 3 and 4, and the four outputs. Assumes nothing.
-use Rattle.std.specs.Prelude.{ℕ, ◌+◌, ◌/◌, cond, ℤ, pos, ◌+ℤ◌, ◌-ℤ◌, ◌*ℤ◌}
+use Rattle.std.specs.Prelude.{ℕ, ◌+◌, ◌/◌, if◌then◌else◌, ℤ, pos, ◌+ℤ◌, ◌-ℤ◌, ◌*ℤ◌}
 use Rattle.numbers.specs.Numbers.{floor_div, held, minus}
 use Rattle.control.specs.Control.{flag_of, LP3, LP4}
 use Rattle.filter.specs.declared.Poles.{Poles}
@@ -26,12 +26,12 @@ coefficient K = K / 16
 --    1   1    low, K1    low, K2
 unfoldable pub pole3 : ℕ → ℕ → ℕ → ℤ → ℤ → ℤ → ℤ
 pole3 cr k₁ k₂ x x' y =
-    cond (flag_of LP4 cr)
-    (cond (flag_of LP3 cr) (low_pass k₁ x y) (low_pass k₂ x y))
-    (cond (flag_of LP3 cr) (low_pass k₁ x y) (high_pass k₂ x x' y))
+    if flag_of LP4 cr then (if flag_of LP3 cr then low_pass k₁ x y else low_pass k₂ x y)
+    else if flag_of LP3 cr then low_pass k₁ x y
+    else high_pass k₂ x x' y
 
 unfoldable pub pole4 : ℕ → ℕ → ℤ → ℤ → ℤ → ℤ
-pole4 cr k₂ x x' y = cond (flag_of LP4 cr) (low_pass k₂ x y) (high_pass k₂ x x' y)
+pole4 cr k₂ x x' y = if flag_of LP4 cr then low_pass k₂ x y else high_pass k₂ x x' y
 
 -- The four new outputs, of the sample x and the last outputs p. Each pole's input is the new output of the pole before it; the last
 -- input of poles 3 and 4 is the last output of the pole before.

@@ -1,7 +1,7 @@
 -- One frame over the record: the turns of voices 0 to ACTV, and the closing.
 -- In order: a voice added to its channel; the interrupt step; one turn; the turns; the closing; the call. How many words its voices miss is
 -- specs/Missing. Assumes nothing.
-use Rattle.std.specs.Prelude.{◌≡◌, ℕ, zero, suc, ◌+◌, ◌*◌, ◌%◌, Bool, cond, not, ◌&&◌, List, [], ◌∷◌, ◌++◌, map, eqb, ltb, ℤ, length, get_or, set, take, drop, replicate}
+use Rattle.std.specs.Prelude.{◌≡◌, ℕ, zero, suc, ◌+◌, ◌*◌, ◌%◌, Bool, if◌then◌else◌, not, ◌&&◌, List, [], ◌∷◌, ◌++◌, map, ◌==◌, nat_lt, ℤ, length, slice_index, slice_set, take, drop, replicate}
 use Rattle.numbers.specs.Numbers.{word}
 use Rattle.answer.specs.Answer.{Answer, first_refusal, is_done}
 use Rattle.answer.specs.declared.Refusal.TheVariants.{RecordLength, RecordInvalid, TooFewVoices, MemoryLength, OutputLength}
@@ -19,22 +19,22 @@ use Rattle.frame.specs.Missing.{missed_in}
 
 -- a value added to one sum
 unfoldable pub added_to : List ℕ → ℕ → ℤ → List ℕ
-added_to m i z = set m i (mixed (get_or m i 0) (word 23 z))
+added_to m i z = slice_set m i (mixed (slice_index m i) (word 23 z))
 
 -- left and right added to the sums of channel c; channels 6 and 7 are none
 unfoldable pub added : List ℕ → ℕ → ℤ → ℤ → List ℕ
-added m c left right = cond (ltb c 6) (added_to (added_to m (SUMS + 2 * c) left) (SUMS + 2 * c + 1) right) m
+added m c left right = if nat_lt c 6 then added_to (added_to m (SUMS + 2 * c) left) (SUMS + 2 * c + 1) right else m
 
 -- the interrupt step of voice v, whose control register is CR: a waiting voice enters an empty vector
 unfoldable pub signalled : List ℕ → ℕ → ℕ → List ℕ
-signalled m v CR = cond (flag_of IRQ CR && eqb (get_or m IRQV 0) NO_INTERRUPT) (set m IRQV v) m
+signalled m v CR = if flag_of IRQ CR && slice_index m IRQV == NO_INTERRUPT then slice_set m IRQV v else m
 
 -- The turn of voice v. It is taken on the registers as they stand; the voice's words become those that the turn leaves, and the mask follows its
 -- flag; left and right are added to the sums of the channel that the voice was on; and the interrupt step goes by the flag as the turn left it.
 unfoldable pub turn_at : List ℕ → ℕ → List ℕ → List ℕ
 turn_at memory v m =
     let before = voice_of (voice_at m v) in
-    let t = turn_of memory (get_or m SLOW 0) before in
+    let t = turn_of memory (slice_index m SLOW) before in
     let stored = with_mask (put_voice m v (words_of t.voice)) in
     let sounded = added stored (channel_of before.cr) t.left t.right in
     signalled sounded v t.voice.cr
@@ -56,20 +56,20 @@ silenced m = take SUMS m ++ (replicate OUTPUT_VALUES 0 ++ drop OUTPUT_VALUES (dr
 
 -- the record after the closing: the sums are 0, and the slow-ramp counter is one on
 unfoldable pub closed : List ℕ → List ℕ
-closed m = let s = silenced m in set s SLOW ((get_or s SLOW 0 + 1) % 8)
+closed m = let s = silenced m in slice_set s SLOW ((slice_index s SLOW + 1) % 8)
 
 -- ---- the call
 
 -- all turns of a frame
 unfoldable pub played : List ℕ → List ℕ → List ℕ
-played memory m = turns memory (get_or m ACTV 0 + 1) m
+played memory m = turns memory (slice_index m ACTV + 1) m
 
 -- the least ACTV that a frame takes, and a record that has less: fewer than five voices are active
 abbrev pub LEAST_ACTV : ℕ
 LEAST_ACTV = 4
 
 abbrev pub too_few : List ℕ → Bool
-too_few m = ltb (get_or m ACTV 0) LEAST_ACTV
+too_few m = nat_lt (slice_index m ACTV) LEAST_ACTV
 
 unfoldable pub frame_answer : List ℕ → List ℕ → List ℤ → Answer
 frame_answer m memory out =
@@ -78,18 +78,18 @@ frame_answer m memory out =
     ∷ (not_valid m, RecordInvalid)
     ∷ (too_few m, TooFewVoices)
     ∷ (too_many_words (length memory), MemoryLength)
-    ∷ (not (eqb (length out) OUTPUT_VALUES), OutputLength)
+    ∷ (not (length out == OUTPUT_VALUES), OutputLength)
     ∷ [])
 
 unfoldable pub frame_record : List ℕ → List ℕ → List ℤ → List ℕ
-frame_record m memory out = cond (is_done (frame_answer m memory out)) (closed (played memory m)) m
+frame_record m memory out = if is_done (frame_answer m memory out) then closed (played memory m) else m
 
 unfoldable pub frame_output : List ℕ → List ℕ → List ℤ → List ℤ
-frame_output m memory out = cond (is_done (frame_answer m memory out)) (heard (played memory m)) out
+frame_output m memory out = if is_done (frame_answer m memory out) then heard (played memory m) else out
 
 -- how many words were missing; a refused frame gives 0
 unfoldable pub frame_missing : List ℕ → List ℕ → List ℤ → ℕ
-frame_missing m memory out = cond (is_done (frame_answer m memory out)) (missed_in memory m) 0
+frame_missing m memory out = if is_done (frame_answer m memory out) then missed_in memory m else 0
 
 -- what a frame promises: its answer, the number of missing words, the record afterwards and the output afterwards
 pub record Frames (m memory : List ℕ) (out : List ℤ) (answer : Answer) (missing : ℕ) (after : List ℕ) (sound : List ℤ) : Type 0 where

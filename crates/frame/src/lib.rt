@@ -4,7 +4,7 @@
 //! adds its own.
 #![tactic(auto)]
 
-ghost use Rattle.std.specs.Prelude.{◌≡◌, true, cond, map, ℕ, ◌+◌, ◌*◌, ◌%◌, ◌^◌, ◌<◌, length, get_or, replicate};
+ghost use Rattle.std.specs.Prelude.{◌≡◌, IsTrue, if◌then◌else◌, map, ℕ, ◌+◌, ◌*◌, ◌%◌, ◌^◌, ◌<◌, length, slice_index, replicate};
 ghost use Rattle.numbers.specs.Numbers.{Within};
 ghost use Rattle.control.specs.Control.{flag_of, with_bit, IRQ};
 ghost use Rattle.channel.specs.Channel.{put_out};
@@ -81,9 +81,9 @@ fn play(m: &mut Machine, memory: &[u16]) -> u32
 // The turn of voice v. How many words it misses is added to `missing`. The voice's words, the sums
 // and the mask change together, and between them the record is not valid.
 fn turn(m: &mut [u32], v: usize, slow: u32, samples: &Samples, missing: &mut u32)
-    requires m_value { valid m.old ≡ true }
+    requires m_value { IsTrue (valid m.old) }
     requires v_bound { v < VOICES }
-    requires slow_value { slow ≡ get_or m.old SLOW 0 }
+    requires slow_value { slow ≡ slice_index m.old SLOW }
     requires missing_bound { missing.old + 2 < 2 ^ 32 }
     ensures m_after { m.new ≡ turn_at samples.now.memory.now v m.old }
     ensures missing_after { missing.new ≡ missing.old + missed_by samples.now.memory.now (voice_of (voice_at m.old v)) }
@@ -101,7 +101,7 @@ fn turn(m: &mut [u32], v: usize, slow: u32, samples: &Samples, missing: &mut u32
 // is no `Machine`, and the sides of an addend have the range that `volume::pan` promises of each.
 fn add(m: &mut [u32], addend: Option<Addend>)
     requires m_len { length m.old ≡ RECORD_WORDS }
-    requires by_index { (i : ℕ) → i < OUTPUT_VALUES → get_or m.old (SUMS + i) 0 < 8388608 }
+    requires by_index { (i : ℕ) → i < OUTPUT_VALUES → slice_index m.old (SUMS + i) < 8388608 }
     requires left { Within 1048576 (as_addend addend).left }
     requires right { Within 1048576 (as_addend addend).right }
     ensures { m.new ≡ added m.old (as_addend addend).channel (as_addend addend).left (as_addend addend).right }
@@ -126,7 +126,7 @@ fn add(m: &mut [u32], addend: Option<Addend>)
 // One value is added to one sum.
 fn add_to(m: &mut [u32], at: usize, z: i32)
     requires at_in_bounds { at < length m.old }
-    requires at_bound { get_or m.old at 0 < 8388608 }
+    requires at_bound { slice_index m.old at < 8388608 }
     requires within { Within 1048576 z }
     ensures { m.new ≡ added_to m.old at z }
 {
@@ -147,7 +147,7 @@ fn left_sum(channel: u32) -> usize
 fn signal(m: &mut [u32], v: usize, cr: u32)
     requires m_len { length m.old ≡ RECORD_WORDS }
     requires v_bound { v < VOICES }
-    requires m_value { waiting_voices m.old ≡ cond (flag_of IRQ cr) (with_bit v 1 (get_or m.old WAIT_MASK 0)) (get_or m.old WAIT_MASK 0) }
+    requires m_value { waiting_voices m.old ≡ (if flag_of IRQ cr then with_bit v 1 (slice_index m.old WAIT_MASK) else slice_index m.old WAIT_MASK) }
     ensures { m.new ≡ signalled (with_mask m.old) v cr }
 {
     if control::flag(control::IRQ, cr) {
@@ -184,7 +184,7 @@ fn take_sums(sums: &mut [u32]) -> [u32; machine::OUTPUT_VALUES]
 // Each sum, held, goes to its place in the output.
 fn put_out(sums: &[u32; machine::OUTPUT_VALUES], out: &mut [i32])
     requires out_len { length out.old ≡ OUTPUT_VALUES }
-    requires by_index { (i : ℕ) → i < OUTPUT_VALUES → get_or sums.now i 0 < 8388608 }
+    requires by_index { (i : ℕ) → i < OUTPUT_VALUES → slice_index sums.now i < 8388608 }
     ensures { out.new ≡ map put_out sums.now }
 {
     // By number: a proof knows nothing of what a `zip` with the values to be changed goes over.

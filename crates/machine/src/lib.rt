@@ -2,7 +2,7 @@
 //! record but a reset begins with, the waiting voices, and reset.
 #![tactic(auto)]
 
-ghost use Rattle.std.specs.Prelude.{◌≡◌, ◌&&◌, ◌+◌, ◌<◌, ◌≤◌, cond, length, get_or};
+ghost use Rattle.std.specs.Prelude.{◌≡◌, ◌&&◌, ◌+◌, ◌<◌, ◌≤◌, if◌then◌else◌, length, slice_index};
 ghost use Rattle.answer.specs.Answer.{answer_of, value_or};
 ghost use Rattle.control.specs.Control.{with_bit};
 ghost use Rattle.machine.specs.Words.{bits_of, voice_bits, shared_bits, RECORD_WORDS as Words-as-RECORD_WORDS, VOICES as Words-as-VOICES, O3N2 as Words-as-O3N2};
@@ -289,7 +289,7 @@ fn gather_flags(m: &[u32; RECORD_WORDS]) -> u32
 pub fn mark(m: &mut [u32], v: usize, b: bool)
     requires m_len { length m.old ≡ Words-as-RECORD_WORDS }
     requires v_bound { v < Words-as-VOICES }
-    requires m_value { waiting_voices m.old ≡ with_bit v (cond b 1 0) (get_or m.old Words-as-WAIT_MASK 0) }
+    requires m_value { waiting_voices m.old ≡ with_bit v (if b then 1 else 0) (slice_index m.old Words-as-WAIT_MASK) }
     ensures { m.new ≡ with_mask m.old }
 {
     let mask = m[WAIT_MASK];

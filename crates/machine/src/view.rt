@@ -1,5 +1,5 @@
 //! A record that was checked.
-ghost use Rattle.std.specs.Prelude.{◌≡◌, true, length};
+ghost use Rattle.std.specs.Prelude.{◌≡◌, IsTrue, length};
 ghost use Rattle.machine.specs.Words.{RECORD_WORDS, valid};
 
 /// A record that a host lends, once it is checked: it stays valid from write to write.
@@ -7,13 +7,13 @@ ghost use Rattle.machine.specs.Words.{RECORD_WORDS, valid};
 pub struct Machine<'a> {
     pub words: &'a mut [u32],
     pub ghost whole: { length words.now ≡ RECORD_WORDS },
-    pub ghost sound: { valid words.now ≡ true },
+    pub ghost sound: { IsTrue (valid words.now) },
 }
 
 impl<'a> Machine<'a> {
     /// The record, which the check did not refuse.
     pub fn lent(words: &'a mut [u32]) -> Machine<'a>
-        requires { valid words.old ≡ true }
+        requires { IsTrue (valid words.old) }
         ensures same_reference { result.words.ghost_name ≡ words.entry.ghost_name }
         ensures words { result.words.now ≡ words.old }
     {

@@ -1,5 +1,5 @@
 -- Ramps: a volume or a filter coefficient moved by its ramp register. Assumes nothing.
-use Rattle.std.specs.Prelude.{ℕ, ◌/◌, ◌%◌, cond, not, ◌&&◌, eqb, ℤ, pos, ◌+ℤ◌}
+use Rattle.std.specs.Prelude.{ℕ, ◌/◌, ◌%◌, if◌then◌else◌, not, ◌&&◌, ◌==◌, ℤ, pos, ◌+ℤ◌}
 use Rattle.numbers.specs.Numbers.{signed, word, held}
 
 -- the increment: bits 15 to 8 of the ramp register, signed
@@ -12,4 +12,4 @@ ramped value RAMP = word 16 (held (pos 0) (pos 65535) (pos value +ℤ increment 
 
 -- a coefficient whose ramp has bit 0 set is slow: it moves only when the slow-ramp counter is 0
 unfoldable pub slow_ramped : ℕ → ℕ → ℕ → ℕ
-slow_ramped slow value RAMP = cond (eqb (RAMP % 2) 1 && not (eqb slow 0)) value (ramped value RAMP)
+slow_ramped slow value RAMP = if RAMP % 2 == 1 && not (slow == 0) then value else ramped value RAMP

@@ -3,7 +3,7 @@
 //! map from page and register to word, for writes and reads alike.
 #![tactic(auto)]
 
-ghost use Rattle.std.specs.Prelude.{◌≡◌, true, ◌<◌, get_or, set};
+ghost use Rattle.std.specs.Prelude.{◌≡◌, IsTrue, ◌<◌, slice_index, slice_set};
 ghost use Rattle.answer.specs.Answer.{answer_of, value_or};
 ghost use Rattle.machine.specs.Lent.{Leaves};
 ghost use Rattle.machine.specs.Words.{READ_LATCH, WAIT_MASK, cut, with_mask, valid};
@@ -99,7 +99,7 @@ fn write_byte(machine: &mut Machine, r: u32, k: u32, b: u8)
 fn read_byte(machine: &mut Machine, r: u32, k: u32) -> u8
     requires { (r < 16) × (k < 4) }
     ensures leaves { Leaves machine.old machine.new (read_from machine.old.words.now r k) }
-    ensures gives { result ≡ byte_of k (get_or machine.new.words.now READ_LATCH 0) }
+    ensures gives { result ≡ byte_of k (slice_index machine.new.words.now READ_LATCH) }
 {
     if k == 0 {
         let register = decode(machine.words[machine::PAGE], r);
@@ -164,9 +164,9 @@ fn store(machine: &mut Machine, register: Register, x: u32)
 // too: the record is valid again only then, so both are written here.
 #[tactic(auto, using(machine::proofs::Valid::valid_long, machine::proofs::Valid::stored_long, crate::proofs::Valid::mark_stored, crate::proofs::Valid::kept_stored), unfolding(machine::specs::Words::cut))]
 fn store_word(m: &mut [u32], i: usize, x: u32)
-    requires m_value { valid m.old ≡ true }
+    requires m_value { IsTrue (valid m.old) }
     requires i_bound { i < WAIT_MASK }
-    ensures { m.new ≡ with_mask (set m.old i (cut i x)) }
+    ensures { m.new ≡ with_mask (slice_set m.old i (cut i x)) }
 {
     let y = x & machine::bits_of(i);
     m[i] = y;
@@ -180,7 +180,7 @@ fn store_word(m: &mut [u32], i: usize, x: u32)
 #[tactic(auto, using(machine::proofs::Valid::valid_long, crate::proofs::Valid::valid_word, crate::proofs::Valid::valid_read_latch, crate::proofs::Valid::valid_pot, crate::proofs::Valid::valid_acknowledged), unfolding(crate::specs::Registers::read_as, crate::specs::Registers::side_effect))]
 fn load(machine: &mut Machine, register: Register)
     requires { Inside register }
-    ensures { Leaves machine.old machine.new (side_effect (set machine.old.words.now READ_LATCH (read_as machine.old.words.now register)) register) }
+    ensures { Leaves machine.old machine.new (side_effect (slice_set machine.old.words.now READ_LATCH (read_as machine.old.words.now register)) register) }
 {
     match register {
         Register::Word(i) => machine.words[machine::READ_LATCH] = machine.words[i],
@@ -200,7 +200,7 @@ fn load(machine: &mut Machine, register: Register)
 // vector is free for the next. The record is valid again only when all are written.
 #[tactic(auto, using(machine::proofs::Valid::valid_long, machine::proofs::Valid::stored_long, crate::proofs::Valid::valid_cr, crate::proofs::Valid::mark_cleared, crate::proofs::Valid::acknowledges, crate::proofs::Valid::acknowledges_none))]
 fn acknowledge(m: &mut [u32])
-    requires { valid m.old ≡ true }
+    requires { IsTrue (valid m.old) }
     ensures { m.new ≡ acknowledged m.old }
 {
     let voice = m[machine::IRQV] as usize;

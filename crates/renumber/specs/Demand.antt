@@ -2,7 +2,7 @@
 -- called on them, and what then follows.
 -- In order: renumberings; machines that match; whole register writes; the calls between two frames; a trace of calls with frames; two
 -- traces that are alike; what holds along them; the theorem. Assumes nothing.
-use Rattle.std.specs.Prelude.{◌≡◌, ◌≢◌, true, false, cond, List, [], ◌∷◌, ◌++◌, ℕ, ◌+◌, ◌*◌, ◌≤◌, ◌<◌, eqb, ℤ, length, get_or}
+use Rattle.std.specs.Prelude.{◌≡◌, ◌≢◌, IsTrue, IsFalse, if◌then◌else◌, List, [], ◌∷◌, ◌++◌, ℕ, ◌+◌, ◌*◌, ◌≤◌, ◌<◌, ◌==◌, ℤ, length, slice_index}
 use Rattle.answer.specs.Answer.{Done, is_done}
 use Rattle.control.specs.Control.{bit_of, IRQ}
 use Rattle.machine.specs.Words.{VOICES, VOICE_WORDS, CR, PAGE, ACTV, SLOW, SUMS, OUTPUT_VALUES, voice_word, valid}
@@ -30,16 +30,16 @@ pub record Renumbering (active : ℕ) (s : ℕ → ℕ) : Type 0 where
 
 -- two voices hold the same registers, interrupt flags excepted: of CR every bit but IRQ, and every other word
 pub record SameVoice (w x : List ℕ) : Type 0 where
-  pub control : (b : ℕ) → b ≢ IRQ → bit_of b (get_or w CR 0) ≡ bit_of b (get_or x CR 0)
-  pub others : (j : ℕ) → CR < j → j < VOICE_WORDS → get_or w j 0 ≡ get_or x j 0
+  pub control : (b : ℕ) → b ≢ IRQ → bit_of b (slice_index w CR) ≡ bit_of b (slice_index x CR)
+  pub others : (j : ℕ) → CR < j → j < VOICE_WORDS → slice_index w j ≡ slice_index x j
 
 -- The voices match under s, and the active counts, the slow-ramp counters and the channel sums are equal. All else may differ: PAGE,
 -- IRQV, PAR, MODE, W_ST, W_END, LR_END, both latches, and the mask of the waiting voices, which is excepted with the flags.
 pub record Match (s : ℕ → ℕ) (m n : List ℕ) : Type 0 where
   pub voices : (v : ℕ) → v < VOICES → SameVoice (voice_at m v) (voice_at n (s v))
-  pub active : get_or m ACTV 0 ≡ get_or n ACTV 0
-  pub slow : get_or m SLOW 0 ≡ get_or n SLOW 0
-  pub sums : (c : ℕ) → c < OUTPUT_VALUES → get_or m (SUMS + c) 0 ≡ get_or n (SUMS + c) 0
+  pub active : slice_index m ACTV ≡ slice_index n ACTV
+  pub slow : slice_index m SLOW ≡ slice_index n SLOW
+  pub sums : (c : ℕ) → c < OUTPUT_VALUES → slice_index m (SUMS + c) ≡ slice_index n (SUMS + c)
 
 -- ---- whole register writes
 
@@ -52,7 +52,7 @@ pub record Put : Type 0 where
 -- a voice's own writes, in their order
 abbrev pub of_voice : ℕ → List Put → List (ℕ × ℕ)
 of_voice v [] = []
-of_voice v (p ∷ ps) = cond (eqb v p.voice) ((p.word, p.number) ∷ of_voice v ps) (of_voice v ps)
+of_voice v (p ∷ ps) = if v == p.voice then (p.word, p.number) ∷ of_voice v ps else of_voice v ps
 
 -- ---- the calls between two frames
 
@@ -73,14 +73,14 @@ pub data Between : List ℕ → Phase → List Call → List Put → Phase → T
       → Between (after m (SetPot p)) φ t ps ψ → Between m φ (SetPot p ∷ t) ps ψ
   asking : {m : List ℕ} {φ ψ : Phase} {t : List Call} {ps : List Put}
       → Between (after m Waiting) φ t ps ψ → Between m φ (Waiting ∷ t) ps ψ
-  refused : {m : List ℕ} {φ ψ : Phase} {t : List Call} {ps : List Put} (a b : ℕ) → is_done (answer_to m (Write a b)) ≡ false
+  refused : {m : List ℕ} {φ ψ : Phase} {t : List Call} {ps : List Put} (a b : ℕ) → IsFalse (is_done (answer_to m (Write a b)))
       → Between (after m (Write a b)) φ t ps ψ → Between m φ (Write a b ∷ t) ps ψ
   -- a byte of PAGE, register 15: single bytes will do, in any order
   paging : {m : List ℕ} {ψ : Phase} {t : List Call} {ps : List Put} (k b : ℕ) → k < 4 → b < 256
       → Between (after m (Write (4 * 15 + k) b)) idle t ps ψ → Between m idle (Write (4 * 15 + k) b ∷ t) ps ψ
   -- byte 0 of a register that, as PAGE stands now, names word j of voice v
   first : {m : List ℕ} {ψ : Phase} {t : List Call} {ps : List Put} (r v j b : ℕ) → r < 16 → v < VOICES → j < VOICE_WORDS → b < 256
-      → register_of (get_or m PAGE 0) r ≡ Word (voice_word v j)
+      → register_of (slice_index m PAGE) r ≡ Word (voice_word v j)
       → Between (after m (Write (4 * r + 0) b)) (begun r v j 1 b) t ps ψ → Between m idle (Write (4 * r + 0) b ∷ t) ps ψ
   -- byte 1 or 2 of it
   next : {m : List ℕ} {r v j k x : ℕ} {ψ : Phase} {t : List Call} {ps : List Put} (b : ℕ) → k < 3 → b < 256
@@ -147,6 +147,6 @@ Along s (go_on {m = m} {t = t} memory out b e f) (go_on {m = n} {t = u} memory' 
 -- and in the end matching voices hold the same registers, interrupt flags excepted.
 abbrev pub Inaudible : Type 0
 Inaudible =
-    (s : ℕ → ℕ) (m n : List ℕ) → valid m ≡ true → valid n ≡ true → Renumbering (get_or m ACTV 0) s → Match s m n
+    (s : ℕ → ℕ) (m n : List ℕ) → IsTrue (valid m) → IsTrue (valid n) → Renumbering (slice_index m ACTV) s → Match s m n
     → (t u : List Call) (l k : Log) (T : Trace m idle t l) (U : Trace n idle u k) → Alike s l k
     → Along s T U × (outputs m t ≡ outputs n u) × Match s (run m t) (run n u)

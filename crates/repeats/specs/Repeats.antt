@@ -1,6 +1,6 @@
 -- Commands of four bytes, of which some repeat others: a kind, a number of two bytes, the high one first, and one byte.
 -- In order: how many there are, and what one has at its place; what one stands for; all of them in full. Assumes nothing.
-use Rattle.std.specs.Prelude.{ℕ, zero, suc, ◌+◌, ◌*◌, ◌/◌, ◌-◌, Bool, cond, ◌&&◌, List, [], ◌++◌, eqb, leb, length, get_or}
+use Rattle.std.specs.Prelude.{ℕ, zero, suc, ◌+◌, ◌*◌, ◌/◌, ◌-◌, Bool, if◌then◌else◌, ◌&&◌, List, [], ◌++◌, ◌==◌, nat_le, length, slice_index}
 use Rattle.layout.specs.Parts.{part}
 use Rattle.layout.specs.Bytes.{big2_at}
 
@@ -13,13 +13,13 @@ command_count xs = length xs / COMMAND_BYTES
 
 -- of the command whose bytes begin at i
 abbrev pub kind_at : List ℕ → ℕ → ℕ
-kind_at xs i = get_or xs i 0
+kind_at xs i = slice_index xs i
 
 abbrev pub number_at : List ℕ → ℕ → ℕ
 number_at xs i = big2_at xs (i + 1)
 
 abbrev pub byte_at : List ℕ → ℕ → ℕ
-byte_at xs i = get_or xs (i + 3) 0
+byte_at xs i = slice_index xs (i + 3)
 
 -- ---- repeats
 
@@ -36,11 +36,11 @@ asked_at xs i = COMMAND_BYTES * byte_at xs i
 -- whether the command at i, with n bytes in full before it, repeats others: it asks for no more than it goes back by, and goes back no further than
 -- to the first
 unfoldable pub repeats_at : List ℕ → ℕ → ℕ → Bool
-repeats_at xs i n = eqb (kind_at xs i) REPEAT && leb (asked_at xs i) (back_at xs i) && leb (back_at xs i) n
+repeats_at xs i n = kind_at xs i == REPEAT && nat_le (asked_at xs i) (back_at xs i) && nat_le (back_at xs i) n
 
 -- what it stands for after others, which are in full: those that it repeats, or itself
 unfoldable pub stands_for : List ℕ → List ℕ → ℕ → List ℕ
-stands_for before xs i = cond (repeats_at xs i (length before)) (part before (length before - back_at xs i) (asked_at xs i)) (part xs i COMMAND_BYTES)
+stands_for before xs i = if repeats_at xs i (length before) then part before (length before - back_at xs i) (asked_at xs i) else part xs i COMMAND_BYTES
 
 -- the first k commands in full, and all of them
 unfoldable pub full_to : List ℕ → ℕ → List ℕ

@@ -1,6 +1,6 @@
 -- The sample of a voice: the two words that it fetches from sample memory, each with whether it was there; how many were missing; what a word
 -- stands for, and the value between two. Assumes nothing.
-use Rattle.std.specs.Prelude.{ℕ, ◌+◌, ◌*◌, ◌/◌, ◌%◌, Bool, true, false, cond, Option, None, Some, List, ltb, ℤ, pos, ◌+ℤ◌, ◌-ℤ◌, ◌*ℤ◌, length, get_or}
+use Rattle.std.specs.Prelude.{ℕ, ◌+◌, ◌*◌, ◌/◌, ◌%◌, Bool, true, false, if◌then◌else◌, Option, None, Some, List, nat_lt, ℤ, pos, ◌+ℤ◌, ◌-ℤ◌, ◌*ℤ◌, length, slice_index}
 use Rattle.numbers.specs.Numbers.{floor_div, signed}
 use Rattle.codes.specs.Codes.{value_of}
 use Rattle.control.specs.Control.{flag_of, bank_of, CMPD}
@@ -14,7 +14,7 @@ MOST_MEMORY_WORDS = 4 * BANK_WORDS
 
 -- so many words of memory are more than can be lent
 abbrev pub too_many_words : ℕ → Bool
-too_many_words n = ltb MOST_MEMORY_WORDS n
+too_many_words n = nat_lt MOST_MEMORY_WORDS n
 
 -- what one sample is in START, END and ACCUM, which also have a fraction of one
 abbrev pub WHOLE_SAMPLE : ℕ
@@ -36,7 +36,7 @@ as_word (Some bits) = record { bits = bits; there = true }
 
 -- a word of the lent memory, and whether it is there; one beyond the memory is 0, and is not
 abbrev pub word_at : List ℕ → ℕ → MemoryWord
-word_at memory i = record { bits = get_or memory i 0; there = ltb i (length memory) }
+word_at memory i = record { bits = slice_index memory i; there = nat_lt i (length memory) }
 
 -- the words of the first and of the second sample: one at ACCUM's whole part, in the voice's bank, and the next, which wraps within
 -- the bank
@@ -51,11 +51,11 @@ fetched memory CR ACCUM = record { first = word_at memory (first_at CR ACCUM); s
 
 -- how many of the two were missing: each counts by itself, also where F is 0 and the second is not heard
 unfoldable pub missing_of : Words → ℕ
-missing_of w = cond w.first.there 0 1 + cond w.second.there 0 1
+missing_of w = (if w.first.there then 0 else 1) + (if w.second.there then 0 else 1)
 
 -- what a word stands for: a sample of 16 bits, or where CMPD is 1 the value of the code in its high byte
 unfoldable pub sample_of : ℕ → ℕ → ℤ
-sample_of CR w = cond (flag_of CMPD CR) (value_of (w / 256)) (signed 16 w)
+sample_of CR w = if flag_of CMPD CR then value_of (w / 256) else signed 16 w
 
 -- F: ACCUM's nine upper fractional bits
 unfoldable pub fraction : ℕ → ℕ

@@ -2,7 +2,7 @@
 //! how many were missing; what a word stands for, and the value between two.
 #![tactic(auto)]
 
-ghost use Rattle.std.specs.Prelude.{◌≡◌, cond, ◌+◌, ◌*◌, ◌^◌, ◌<◌, length};
+ghost use Rattle.std.specs.Prelude.{◌≡◌, if◌then◌else◌, ◌+◌, ◌*◌, ◌^◌, ◌<◌, length};
 ghost use Rattle.numbers.specs.Numbers.{Bits};
 ghost use Rattle.sample.specs.Sample.{as_word, word_at, fetched, missing_of, sample_of, fraction, interpolated, BANK_WORDS as Sample-as-BANK_WORDS};
 ghost use Rattle.sample.specs.Lasts.{last_of, Lasts};
@@ -88,7 +88,7 @@ impl<'a> Samples<'a> {
 // One more where a word was missing.
 fn tally(word: Option<u16>, missing: &mut u32)
     requires { missing.old + 1 < 2 ^ 32 }
-    ensures { missing.new ≡ missing.old + cond (as_word word).there 0 1 }
+    ensures { missing.new ≡ missing.old + (if (as_word word).there then 0 else 1) }
 {
     if word.is_none() {
         *missing += 1;

@@ -1,7 +1,7 @@
 -- A score played, a number of calls at a time; its commands are in full.
 -- In order: the calls that are left at a place of the score; frames and refusals of a run; what is heard of it, and of a score; what one call comes
 -- to; what some do; all of them, in parts. Assumes nothing.
-use Rattle.std.specs.Prelude.{ℕ, ◌+◌, ◌*◌, ◌/◌, ◌-◌, ◌≤◌, ◌<◌, ◌≡◌, Bool, true, false, cond, List, [], ◌∷◌, ◌++◌, length, take, drop, replicate}
+use Rattle.std.specs.Prelude.{ℕ, ◌+◌, ◌*◌, ◌/◌, ◌-◌, ◌≤◌, ◌<◌, ◌≡◌, Bool, true, false, if◌then◌else◌, List, [], ◌∷◌, ◌++◌, length, take, drop, replicate}
 use Rattle.layout.specs.Parts.{with_part}
 use Rattle.answer.specs.Answer.{Answer, is_done}
 use Rattle.machine.specs.Words.{RECORD_WORDS}
@@ -27,11 +27,11 @@ is_frame (Frame memory out) = true
 
 unfoldable pub frames_in : List Call → ℕ
 frames_in [] = 0
-frames_in (c ∷ cs) = cond (is_frame c) 1 0 + frames_in cs
+frames_in (c ∷ cs) = (if is_frame c then 1 else 0) + frames_in cs
 
 unfoldable pub refusals : List Answer → ℕ
 refusals [] = 0
-refusals (a ∷ rest) = cond (is_done a) 0 1 + refusals rest
+refusals (a ∷ rest) = (if is_done a then 0 else 1) + refusals rest
 
 -- what is heard of the calls, made one after the other on the record m
 unfoldable pub heard_from : List ℕ → List Call → List ℕ
@@ -49,7 +49,7 @@ score_sound memory score = heard_from first_record (score_calls memory score)
 
 -- what is heard of it: four bytes of a frame, nothing of another
 unfoldable pub heard_at : List ℕ → Call → List ℕ
-heard_at m c = cond (is_frame c) (sample_bytes (output_from m c)) []
+heard_at m c = if is_frame c then sample_bytes (output_from m c) else []
 
 -- it is made, and what is heard of it put at a place of the sound
 pub record Makes (m : List ℕ) (c : Call) (sound : List ℕ) (at : ℕ) (answer : Answer) (later heard : List ℕ) : Type 0 where

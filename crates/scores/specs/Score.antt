@@ -1,7 +1,7 @@
 -- A score: the words of sample memory at its start, and its commands, in full; which calls a command makes; the calls of all
 -- commands; how many frames these are; whether a score is good. In that order. How commands stand in bytes, and what one that repeats others stands
 -- for, is `repeats`. Assumes nothing.
-use Rattle.std.specs.Prelude.{ℕ, zero, suc, ◌*◌, ◌%◌, ◌-◌, ◌<◌, ◌≡◌, Bool, true, false, cond, not, ◌&&◌, List, [], ◌∷◌, ◌++◌, eqb, ltb, ℤ, pos, length, get_or, drop, replicate, Option, None, Some, Result, Ok, Err}
+use Rattle.std.specs.Prelude.{ℕ, zero, suc, ◌*◌, ◌%◌, ◌-◌, ◌<◌, ◌≡◌, Bool, true, false, if◌then◌else◌, not, ◌&&◌, List, [], ◌∷◌, ◌++◌, ◌==◌, nat_lt, ℤ, pos, length, slice_index, drop, replicate, Option, None, Some, Result, Ok, Err}
 use Rattle.numbers.specs.Sum.{sum}
 use Rattle.layout.specs.Bytes.{big2_at}
 use Rattle.repeats.specs.Repeats.{COMMAND_BYTES, command_count, kind_at, number_at, byte_at, REPEAT, in_full}
@@ -20,7 +20,7 @@ MEMORY_BYTES = 8192
 
 -- the first n words of the memory are the score's bytes by twos, the high one first
 abbrev pub Filled : ℕ → List ℕ → List ℕ → Type 0
-Filled n score memory = (k : ℕ) → k < n → get_or memory k 0 ≡ big2_at score (2 * k)
+Filled n score memory = (k : ℕ) → k < n → slice_index memory k ≡ big2_at score (2 * k)
 
 -- what stands after them, in full
 abbrev pub commands_of : List ℕ → List ℕ
@@ -31,13 +31,14 @@ commands_of score = in_full (drop MEMORY_BYTES score)
 -- kinds 0 to 5 are a call that is made once, 6 is n frames, and another kind no call
 unfoldable pub command_of : ℕ → ℕ → ℕ → Command
 command_of kind n byte =
-    cond (eqb kind 0) (Once Reset)
-    (cond (eqb kind 1) (Once (Write n byte))
-    (cond (eqb kind 2) (Once (Read n))
-    (cond (eqb kind 3) (Once (SetPot n))
-    (cond (eqb kind 4) (Once Frame)
-    (cond (eqb kind 5) (Once Waiting)
-    (cond (eqb kind 6) (Frames n) Nothing))))))
+    if kind == 0 then Once Reset
+    else if kind == 1 then Once (Write n byte)
+    else if kind == 2 then Once (Read n)
+    else if kind == 3 then Once (SetPot n)
+    else if kind == 4 then Once Frame
+    else if kind == 5 then Once Waiting
+    else if kind == 6 then Frames n
+    else Nothing
 
 -- how many calls it makes, and which one where so many of them are made
 unfoldable pub times_of : Command → ℕ
@@ -46,8 +47,8 @@ times_of (Frames n) = n
 times_of Nothing = 0
 
 unfoldable pub call_after : Command → ℕ → Option Ask
-call_after (Once a) made = cond (eqb made 0) (Some a) None
-call_after (Frames n) made = cond (ltb made n) (Some Frame) None
+call_after (Once a) made = if made == 0 then Some a else None
+call_after (Frames n) made = if nat_lt made n then Some Frame else None
 call_after Nothing made = None
 
 -- the command whose bytes begin at i, and command k of all, which are counted from 0
@@ -92,7 +93,7 @@ is_frame_ask Waiting = false
 is_frame_ask Frame = true
 
 unfoldable pub frames_of : Command → ℕ
-frames_of (Once a) = cond (is_frame_ask a) 1 0
+frames_of (Once a) = if is_frame_ask a then 1 else 0
 frames_of (Frames n) = n
 frames_of Nothing = 0
 
@@ -129,7 +130,7 @@ MOST_FRAMES = 1073741814
 -- the first n commands are of kinds below this one, and all are
 unfoldable pub first_below : ℕ → List ℕ → ℕ → Bool
 first_below kind commands zero = true
-first_below kind commands (suc n) = first_below kind commands n && ltb (kind_at commands (COMMAND_BYTES * n)) kind
+first_below kind commands (suc n) = first_below kind commands n && nat_lt (kind_at commands (COMMAND_BYTES * n)) kind
 
 abbrev pub all_below : ℕ → List ℕ → Bool
 all_below kind commands = first_below kind commands (command_count commands)
@@ -137,15 +138,16 @@ all_below kind commands = first_below kind commands (command_count commands)
 -- of commands in full: the first of these that holds; a repeat is still there where its commands are not
 unfoldable pub commands_verdict : List ℕ → Verdict
 commands_verdict commands =
-    cond (not (all_below KINDS commands)) (Err Unknown)
-    (cond (not (all_below REPEAT commands)) (Err NotThere)
-    (cond (ltb MOST_FRAMES (all_frames commands)) (Err TooManyFrames) Good))
+    if not (all_below KINDS commands) then Err Unknown
+    else if not (all_below REPEAT commands) then Err NotThere
+    else if nat_lt MOST_FRAMES (all_frames commands) then Err TooManyFrames
+    else Good
 
 -- of a score
 unfoldable pub verdict_of : List ℕ → Verdict
 verdict_of score =
-    cond (ltb MOST_BYTES (length score)) (Err TooLong)
-    (cond (ltb (length score) MEMORY_BYTES) (Err NoMemory)
-    (cond (not (eqb ((length score - MEMORY_BYTES) % COMMAND_BYTES) 0)) (Err Cut)
-    (cond (ltb MOST_FULL_BYTES (length (commands_of score))) (Err TooManyCommands)
-    (commands_verdict (commands_of score)))))
+    if nat_lt MOST_BYTES (length score) then Err TooLong
+    else if nat_lt (length score) MEMORY_BYTES then Err NoMemory
+    else if not ((length score - MEMORY_BYTES) % COMMAND_BYTES == 0) then Err Cut
+    else if nat_lt MOST_FULL_BYTES (length (commands_of score)) then Err TooManyCommands
+    else commands_verdict (commands_of score)

@@ -1,6 +1,6 @@
 -- What is heard of a frame's twelve values, and of a run of frames: stereo, 16 bits.
 -- In order: one side of a frame; what is heard of it; the bytes of a frame; the bytes of some frames; the loudest sample of these. Assumes nothing.
-use Rattle.std.specs.Prelude.{ℕ, zero, suc, ◌+◌, ◌*◌, max, List, [], ◌++◌, ℤ, pos, nat_abs, ◌+ℤ◌, get_or, take, drop}
+use Rattle.std.specs.Prelude.{ℕ, zero, suc, ◌+◌, ◌*◌, max, List, [], ◌++◌, ℤ, pos, nat_abs, ◌+ℤ◌, slice_index_or, take, drop}
 use Rattle.numbers.specs.Numbers.{floor_div, minus, held, word, signed}
 use Rattle.layout.specs.Bytes.{little_bytes, little2_at}
 use Rattle.machine.specs.Words.{OUTPUT_VALUES}
@@ -8,7 +8,7 @@ use Rattle.machine.specs.Words.{OUTPUT_VALUES}
 -- the sum of the six channels on a side, which is 0 for the left and 1 for the right
 unfoldable pub side_of : ℕ → List ℤ → ℤ
 side_of side values =
-    let of : ℕ → ℤ = λ channel. get_or values (2 * channel + side) (pos 0) in
+    let of : ℕ → ℤ = λ channel. slice_index_or values (2 * channel + side) (pos 0) in
     of 0 +ℤ of 1 +ℤ of 2 +ℤ of 3 +ℤ of 4 +ℤ of 5
 
 -- The channels have 20 bits: of their sum the four lowest are left out, and the rest is held to 16.

@@ -1,7 +1,7 @@
 -- A loop that was imported plays in tune: a voice that gets what an import answered holds its note with a period of just as many whole samples as the
 -- loop has, or twice as many there and back.
 -- In order: the loop's samples, and those of one round, by the loop's type; what a voice gets; a voice that plays; the statement. Assumes nothing.
-use Rattle.std.specs.Prelude.{ℕ, ◌+◌, ◌-◌, ◌*◌, ◌≤◌, ◌≡◌, true, false, cond, List, eqb}
+use Rattle.std.specs.Prelude.{ℕ, ◌+◌, ◌-◌, ◌*◌, ◌≤◌, ◌≡◌, IsTrue, IsFalse, if◌then◌else◌, List, ◌==◌}
 use Rattle.answer.specs.Answer.{is_done}
 use Rattle.control.specs.Control.{flag_of, runs, LEI, LPE, BLE, DIR}
 use Rattle.sample.specs.Sample.{WHOLE_SAMPLE}
@@ -17,10 +17,10 @@ loop_samples first last = last + 1 - first
 
 -- by the loop's type in the file: the kind of loop that a voice plays, and the samples of one round of a loop of n
 abbrev pub kind_of : ℕ → Kind
-kind_of type = cond (eqb type 1) Bidirectional (cond (eqb type 2) Reverse Forward)
+kind_of type = if type == 1 then Bidirectional else if type == 2 then Reverse else Forward
 
 abbrev pub round_samples : ℕ → ℕ → ℕ
-round_samples type n = cond (eqb type 1) (2 * n) n
+round_samples type n = if type == 1 then 2 * n else n
 
 -- The voice has START, END and the loop bits of what was answered; the other bits of its control register are its own. In a loop there and back the
 -- direction is the voice's own as well: it changes at each loop point.
@@ -29,12 +29,12 @@ pub record Gets (r : Imported) (v : Voice) : Type 0 where
   pub end : v.end ≡ r.end
   pub loops : flag_of LPE v.cr ≡ flag_of LPE r.bits
   pub both_ways : flag_of BLE v.cr ≡ flag_of BLE r.bits
-  pub direction : flag_of BLE r.bits ≡ false → flag_of DIR v.cr ≡ flag_of DIR r.bits
+  pub direction : IsFalse (flag_of BLE r.bits) → flag_of DIR v.cr ≡ flag_of DIR r.bits
 
 -- It runs, heeds its loop points and is within the loop, of n samples, and no step is longer than the loop.
 pub record Plays (n : ℕ) (v : Voice) : Type 0 where
-  pub running : runs v.cr ≡ true
-  pub heeded : flag_of LEI v.cr ≡ false
+  pub running : IsTrue (runs v.cr)
+  pub heeded : IsFalse (flag_of LEI v.cr)
   pub from : v.start ≤ v.accum
   pub to : v.accum ≤ v.end
   pub pace : v.fc ≤ n * WHOLE_SAMPLE
@@ -46,6 +46,6 @@ pub record Holds (type n : ℕ) (v : Voice) : Type 0 where
 
 abbrev pub ImportedInTune : Type 0
 ImportedInTune =
-    (file memory : List ℕ) (word : ℕ) (r : Imported) (after : List ℕ) → Imports file memory word r after → is_done r.answer ≡ true
+    (file memory : List ℕ) (word : ℕ) (r : Imported) (after : List ℕ) → Imports file memory word r after → IsTrue (is_done r.answer)
     → (type first last : ℕ) → loop_of file (chunks_of file) ≡ Present type first last
     → (v : Voice) → Gets r v → Plays (loop_samples first last) v → Holds type (loop_samples first last) v

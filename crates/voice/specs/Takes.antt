@@ -1,7 +1,7 @@
 -- A turn as the code goes about it, on the voice's own twenty words: what its functions promise to one another and to the frame.
 -- In order: the words after the filters, after the address step and after the ramps, each by itself; what the filters promise; what a turn
 -- promises. Assumes nothing.
-use Rattle.std.specs.Prelude.{◌≡◌, cond, List, ℕ, ℤ, pos, get_or, Option, None, Some}
+use Rattle.std.specs.Prelude.{◌≡◌, if◌then◌else◌, List, ℕ, ℤ, pos, slice_index, Option, None, Some}
 use Rattle.numbers.specs.Numbers.{Bits, Within}
 use Rattle.control.specs.Control.{channel_of, runs}
 use Rattle.address.specs.Address.{stepped}
@@ -42,7 +42,7 @@ pub record Passes (x : ℤ) (w after : List ℕ) (o4 : ℤ) : Type 0 where
 -- A turn: the words afterwards, and what is added to which channel. A stopped voice adds nothing, and names a channel that is none.
 pub record TakesTurn (memory : List ℕ) (slow : ℕ) (w after : List ℕ) (a : Addend) : Type 0 where
   pub words : after ≡ words_of (turn_of memory slow (voice_of w)).voice
-  pub channel : a.channel ≡ cond (runs (get_or w CR 0)) (channel_of (get_or w CR 0)) 7
+  pub channel : a.channel ≡ (if runs (slice_index w CR) then channel_of (slice_index w CR) else 7)
   pub left : a.left ≡ (turn_of memory slow (voice_of w)).left
   pub right : a.right ≡ (turn_of memory slow (voice_of w)).right
   pub small_left : Within 1048576 a.left

@@ -1,7 +1,7 @@
 -- A held note: turns of a voice one after another, and what it is for a voice in a loop to be in tune.
 -- In order: n turns; the kinds of loop, by the bits that make them, the position in the loop and the loop's period; a voice in a loop; what
 -- n turns of it have to come to. Assumes nothing.
-use Rattle.std.specs.Prelude.{ℕ, zero, suc, ◌+◌, ◌-◌, ◌*◌, ◌%◌, ◌<◌, ◌≤◌, ◌≡◌, ◌≢◌, true, false, cond, List}
+use Rattle.std.specs.Prelude.{ℕ, zero, suc, ◌+◌, ◌-◌, ◌*◌, ◌%◌, ◌<◌, ◌≤◌, ◌≡◌, ◌≢◌, IsTrue, IsFalse, if◌then◌else◌, List}
 use Rattle.control.specs.Control.{flag_of, runs, LEI, LPE, BLE, DIR, IRQ}
 use Rattle.voice.specs.Voice.{Voice}
 use Rattle.voice.specs.Turn.{turn_of}
@@ -22,14 +22,14 @@ pub data Kind : Type 0 where
   Forward Reverse Bidirectional : Kind
 
 abbrev pub Mode : Kind → ℕ → Type 0
-Mode Forward CR = (flag_of BLE CR ≡ false) × (flag_of LPE CR ≡ true) × (flag_of DIR CR ≡ false)
-Mode Reverse CR = (flag_of BLE CR ≡ false) × (flag_of LPE CR ≡ true) × (flag_of DIR CR ≡ true)
-Mode Bidirectional CR = (flag_of BLE CR ≡ true) × (flag_of LPE CR ≡ true)
+Mode Forward CR = IsFalse (flag_of BLE CR) × IsTrue (flag_of LPE CR) × IsFalse (flag_of DIR CR)
+Mode Reverse CR = IsFalse (flag_of BLE CR) × IsTrue (flag_of LPE CR) × IsTrue (flag_of DIR CR)
+Mode Bidirectional CR = IsTrue (flag_of BLE CR) × IsTrue (flag_of LPE CR)
 
 unfoldable pub position_of : Kind → Voice → ℕ
 position_of Forward v = v.accum - v.start
 position_of Reverse v = v.end - v.accum
-position_of Bidirectional v = cond (flag_of DIR v.cr) (v.end - v.start + (v.end - v.accum)) (v.accum - v.start)
+position_of Bidirectional v = if flag_of DIR v.cr then v.end - v.start + (v.end - v.accum) else v.accum - v.start
 
 unfoldable pub period_of : Kind → Voice → ℕ
 period_of Forward v = v.end - v.start
@@ -39,8 +39,8 @@ period_of Bidirectional v = 2 * (v.end - v.start)
 -- The voice runs in a loop of that kind and heeds its loop points. It is between them, and no step is longer than the loop; a longer one
 -- would be past the loop point still after the event.
 pub record Loops (k : Kind) (v : Voice) : Type 0 where
-  pub running : runs v.cr ≡ true
-  pub heeded : flag_of LEI v.cr ≡ false
+  pub running : IsTrue (runs v.cr)
+  pub heeded : IsFalse (flag_of LEI v.cr)
   pub mode : Mode k v.cr
   pub from : v.start ≤ v.accum
   pub to : v.accum ≤ v.end

@@ -3,7 +3,7 @@
 -- In order: the poles' last outputs as numbers, and their new ones; the levels that ramps move; a voice with new outputs, and one moved; the
 -- turn of a stopped voice; that of a running one; the turn.
 -- Every rule reads the registers as they stood when the turn began. Assumes nothing.
-use Rattle.std.specs.Prelude.{ℕ, ◌-◌, cond, List, eqb, ℤ, pos}
+use Rattle.std.specs.Prelude.{ℕ, ◌-◌, if◌then◌else◌, List, ◌==◌, ℤ, pos}
 use Rattle.numbers.specs.Numbers.{signed, word}
 use Rattle.control.specs.Control.{runs}
 use Rattle.sample.specs.Sample.{fetched, sample_of, fraction, interpolated}
@@ -29,15 +29,14 @@ levels_of v = record { ecount = v.ecount; lvol = v.lvol; rvol = v.rvol; k1 = v.k
 
 unfoldable pub ramped_levels : ℕ → Voice → Levels
 ramped_levels slow v =
-    cond (eqb v.ecount 0)
-    (levels_of v)
-    (record {
+    if v.ecount == 0 then levels_of v
+    else record {
       ecount = v.ecount - 1;
       lvol = ramped v.lvol v.lvramp;
       rvol = ramped v.rvol v.rvramp;
       k1 = slow_ramped slow v.k1 v.k1ramp;
       k2 = slow_ramped slow v.k2 v.k2ramp;
-    })
+    }
 
 -- the voice with new outputs of its poles: the (n-1) words take them, and the (n-2) words the old (n-1) words
 unfoldable pub with_outputs : Voice → Poles → Voice
@@ -112,4 +111,4 @@ running_turn memory slow v =
     }
 
 unfoldable pub turn_of : List ℕ → ℕ → Voice → Turn
-turn_of memory slow v = cond (runs v.cr) (running_turn memory slow v) (stopped_turn v)
+turn_of memory slow v = if runs v.cr then running_turn memory slow v else stopped_turn v

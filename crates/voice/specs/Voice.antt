@@ -1,7 +1,7 @@
 -- A voice by its registers.
 -- In order: the twenty registers, in the order of the record's words; the voice that twenty words are, and the words that a voice is; the
 -- levels that ramps move; what a turn gives. Assumes nothing.
-use Rattle.std.specs.Prelude.{ℕ, List, [], ◌∷◌, ℤ, get_or}
+use Rattle.std.specs.Prelude.{ℕ, List, [], ◌∷◌, ℤ, slice_index}
 use Rattle.machine.specs.Words.{CR, FC, LVOL, LVRAMP, RVOL, RVRAMP, ECOUNT, K2, K2RAMP, K1, K1RAMP, START, END, ACCUM, O4N1, O3N1, O3N2, O2N1, O2N2, O1N1}
 
 pub record Voice : Type 0 where
@@ -29,26 +29,26 @@ pub record Voice : Type 0 where
 abbrev pub voice_of : List ℕ → Voice
 voice_of w =
     record {
-      cr = get_or w CR 0;
-      fc = get_or w FC 0;
-      lvol = get_or w LVOL 0;
-      lvramp = get_or w LVRAMP 0;
-      rvol = get_or w RVOL 0;
-      rvramp = get_or w RVRAMP 0;
-      ecount = get_or w ECOUNT 0;
-      k2 = get_or w K2 0;
-      k2ramp = get_or w K2RAMP 0;
-      k1 = get_or w K1 0;
-      k1ramp = get_or w K1RAMP 0;
-      start = get_or w START 0;
-      end = get_or w END 0;
-      accum = get_or w ACCUM 0;
-      o4n1 = get_or w O4N1 0;
-      o3n1 = get_or w O3N1 0;
-      o3n2 = get_or w O3N2 0;
-      o2n1 = get_or w O2N1 0;
-      o2n2 = get_or w O2N2 0;
-      o1n1 = get_or w O1N1 0;
+      cr = slice_index w CR;
+      fc = slice_index w FC;
+      lvol = slice_index w LVOL;
+      lvramp = slice_index w LVRAMP;
+      rvol = slice_index w RVOL;
+      rvramp = slice_index w RVRAMP;
+      ecount = slice_index w ECOUNT;
+      k2 = slice_index w K2;
+      k2ramp = slice_index w K2RAMP;
+      k1 = slice_index w K1;
+      k1ramp = slice_index w K1RAMP;
+      start = slice_index w START;
+      end = slice_index w END;
+      accum = slice_index w ACCUM;
+      o4n1 = slice_index w O4N1;
+      o3n1 = slice_index w O3N1;
+      o3n2 = slice_index w O3N2;
+      o2n1 = slice_index w O2N1;
+      o2n2 = slice_index w O2N2;
+      o1n1 = slice_index w O1N1;
     }
 
 unfoldable pub words_of : Voice → List ℕ

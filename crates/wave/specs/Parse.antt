@@ -1,6 +1,6 @@
 -- What the functions that read a file promise: what one pass over its chunks keeps of them, what the file comes to, and what is asked of a chunk before
 -- its bytes are read. In that order. Assumes nothing.
-use Rattle.std.specs.Prelude.{ℕ, ◌+◌, ◌≤◌, Bool, false, cond, List, [], ◌∷◌, eqb, length, Option, Some, None, IfSome}
+use Rattle.std.specs.Prelude.{ℕ, ◌+◌, ◌≤◌, Bool, false, if◌then◌else◌, List, [], ◌∷◌, ◌==◌, length, Option, Some, None, IfSome}
 use Rattle.chunks.specs.Chunks.{Listing, unreadable, chunks, chunks_of, named, FORMAT, DATA, SAMPLER}
 use Rattle.chunks.specs.declared.Chunk.{Chunk}
 use Rattle.wave.specs.Wave.{any_short, is_sampler_short, loop_in, is_broken}
@@ -28,7 +28,7 @@ kept_more c (Once d) = Again d
 kept_more c (Again d) = Again d
 
 abbrev pub keep : ℕ → Chunk → Kept → Kept
-keep name c k = cond (eqb c.name name) (kept_more c k) k
+keep name c k = if c.name == name then kept_more c k else k
 
 -- of all chunks: of those of each name
 abbrev pub found_of : List Chunk → Found
@@ -63,10 +63,10 @@ loop_of_kept file (Again c) = loop_in file c
 
 unfoldable pub collected_of : Listing → Option Found
 collected_of unreadable = None
-collected_of (chunks cs) = cond (any_short cs) None (Some (found_of cs))
+collected_of (chunks cs) = if any_short cs then None else Some (found_of cs)
 
 unfoldable pub parsed_of : List ℕ → Option Found
-parsed_of file = cond (is_broken file) None (Some (found_of (chunks_of file)))
+parsed_of file = if is_broken file then None else Some (found_of (chunks_of file))
 
 -- ---- what is asked of a chunk before its bytes are read: they lie in the file
 

@@ -1,6 +1,6 @@
 -- What a WAVE file holds, each rule a sentence over its chunks.
 -- In order: the first of some chunks, and one alone; the format; the data; the sampler and its first loop; a file that is broken. Assumes nothing.
-use Rattle.std.specs.Prelude.{ℕ, ◌+◌, ◌*◌, ◌/◌, Bool, true, false, cond, ◌&&◌, ◌||◌, List, [], ◌∷◌, ltb, eqb, Option, Some, None}
+use Rattle.std.specs.Prelude.{ℕ, ◌+◌, ◌*◌, ◌/◌, Bool, true, false, if◌then◌else◌, ◌&&◌, ◌||◌, List, [], ◌∷◌, nat_lt, ◌==◌, Option, Some, None}
 use Rattle.layout.specs.Parts.{part}
 use Rattle.layout.specs.Bytes.{little, little2_at, little4_at, twos}
 use Rattle.chunks.specs.Chunks.{listing, is_unreadable, chunks_of, named, FORMAT, DATA, SAMPLER}
@@ -28,7 +28,7 @@ format_of cs = first_of (named FORMAT cs)
 
 -- a format chunk that has less
 abbrev pub is_short : Chunk → Bool
-is_short c = eqb c.name FORMAT && ltb c.size FORMAT_BYTES
+is_short c = c.name == FORMAT && nat_lt c.size FORMAT_BYTES
 
 unfoldable pub any_short : List Chunk → Bool
 any_short [] = false
@@ -36,7 +36,7 @@ any_short (c ∷ cs) = is_short c || any_short cs
 
 -- tag 1, which is PCM; one channel; 16 bits
 unfoldable pub is_mono16 : List ℕ → Chunk → Bool
-is_mono16 file c = eqb (little2_at file c.place) 1 && (eqb (little2_at file (c.place + 2)) 1 && eqb (little2_at file (c.place + 14)) 16)
+is_mono16 file c = little2_at file c.place == 1 && (little2_at file (c.place + 2) == 1 && little2_at file (c.place + 14) == 16)
 
 -- ---- the data: two bytes a sample
 
@@ -64,7 +64,7 @@ loops_of file c = little4_at file (c.place + 28)
 
 -- it has less than its bytes and those of the loops that they count
 unfoldable pub is_sampler_short : List ℕ → Chunk → Bool
-is_sampler_short file c = ltb c.size (SAMPLER_BYTES + LOOP_BYTES * loops_of file c)
+is_sampler_short file c = nat_lt c.size (SAMPLER_BYTES + LOOP_BYTES * loops_of file c)
 
 -- no loop, and one: its type, its first sample and its last
 abbrev pub Absent : Option Loop
@@ -76,7 +76,7 @@ Present type start last = Some (record { form = type; start = start; last = last
 unfoldable pub loop_in : List ℕ → Chunk → Option Loop
 loop_in file c =
     let i = c.place + SAMPLER_BYTES in
-    cond (eqb (loops_of file c) 0) Absent (Present (little4_at file (i + 4)) (little4_at file (i + 8)) (little4_at file (i + 12)))
+    if loops_of file c == 0 then Absent else Present (little4_at file (i + 4)) (little4_at file (i + 8)) (little4_at file (i + 12))
 
 -- of the first sampler chunk, if there is one; later ones are not looked into
 unfoldable pub first_sampler_short : List ℕ → List Chunk → Bool

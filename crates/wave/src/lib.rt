@@ -6,7 +6,7 @@
 //! bytes has at most 8,191. There is no other loop.
 #![tactic(auto)]
 
-ghost use Rattle.std.specs.Prelude.{◌≡◌, false, cond, Some, None, ◌≤◌, length};
+ghost use Rattle.std.specs.Prelude.{◌≡◌, IsFalse, if◌then◌else◌, Some, None, ◌≤◌, length};
 ghost use Rattle.chunks.specs.Chunks.{chunks_from, FIRST_CHUNK as Chunks-as-FIRST_CHUNK};
 ghost use Rattle.wave.specs.Wave.{is_short, is_mono16, is_sampler_short, FORMAT_BYTES as Wave-as-FORMAT_BYTES};
 ghost use Rattle.wave.specs.Parse.{first_kept, kept_more, with_chunk, once_both, collected_of, parsed_of, first_sampler_short_of, loop_of_kept, InFile, FirstInFile};
@@ -86,8 +86,8 @@ impl Found {
     // One more chunk; None for a format chunk that has less than it must.
     #[tactic(auto, unfolding(layout::specs::Bytes::little))]
     fn add(&mut self, c: Chunk) -> Option<()>
-        ensures full { result ≡ cond (is_short c) None (Some tt) }
-        ensures kept { self.new ≡ cond (is_short c) self.old (with_chunk c self.old) }
+        ensures full { result ≡ (if is_short c then None else Some tt) }
+        ensures kept { self.new ≡ (if is_short c then self.old else with_chunk c self.old) }
     {
         match c.kind() {
             Kind::Format if c.size < FORMAT_BYTES => return None,
@@ -165,7 +165,7 @@ fn is_sampler_short(file: &[u8], c: Chunk) -> bool
 #[tactic(auto, using(layout::proofs::Endian::little_4_at), unfolding(crate::specs::Wave::is_sampler_short, crate::specs::Wave::loop_in))]
 pub fn first_loop(file: &[u8], k: Kept) -> Option<Loop>
     requires in_file { FirstInFile file.now k }
-    requires k_value { first_sampler_short_of file.now k ≡ false }
+    requires k_value { IsFalse (first_sampler_short_of file.now k) }
     ensures { result ≡ loop_of_kept file.now k }
 {
     let place = k.first()?.place;

@@ -1,6 +1,6 @@
 -- What importing a WAVE file promises.
 -- In order: the refusals, each by itself, and their order; what the call answers; the memory afterwards; the promise. Assumes nothing.
-use Rattle.std.specs.Prelude.{◌≡◌, ℕ, ◌+◌, ◌%◌, Bool, false, cond, not, ◌&&◌, ◌||◌, List, [], ◌∷◌, leb, ltb, eqb, length, Option, Some, None, Result, Ok, Err}
+use Rattle.std.specs.Prelude.{◌≡◌, ℕ, ◌+◌, ◌%◌, Bool, false, if◌then◌else◌, not, ◌&&◌, ◌||◌, List, [], ◌∷◌, nat_le, nat_lt, ◌==◌, length, Option, Some, None, Result, Ok, Err}
 use Rattle.answer.specs.Answer.{Answer, Done, first_refusal, is_done}
 use Rattle.answer.specs.declared.Refusal.{Refusal}
 use Rattle.answer.specs.declared.Refusal.TheVariants.{MemoryLength, FileBroken, ChunkCount, SampleFormat, LoopInvalid, NoPlace}
@@ -24,17 +24,17 @@ is_miscounted cs = not (is_once (named FORMAT cs) && is_once (named DATA cs))
 
 -- 22: samples that are no 16-bit PCM of one channel, or of which the last lacks a byte
 unfoldable pub is_other_format : List ℕ → List Chunk → Bool
-is_other_format file cs = not (is_mono16 file (format_of cs)) || eqb ((data_of cs).size % 2) 1
+is_other_format file cs = not (is_mono16 file (format_of cs)) || (data_of cs).size % 2 == 1
 
 -- 23: a loop with a point past the last sample, with its last before its start, or of a type that is none of the three
 unfoldable pub is_loop_invalid : ℕ → Option Loop → Bool
 is_loop_invalid count None = false
-is_loop_invalid count (Some l) = leb count l.last || (ltb l.last l.start || ltb 2 l.form)
+is_loop_invalid count (Some l) = nat_le count l.last || (nat_lt l.last l.start || nat_lt 2 l.form)
 
 -- 24: the lent memory or the bank ends before the samples do, or END is greater than its register's greatest value. (It is a number of whole
 -- samples, so that is where it has more than 32 bits.)
 unfoldable pub has_no_place : ℕ → ℕ → ℕ → Option Loop → Bool
-has_no_place room word count l = ltb room (word + count) || (ltb BANK_WORDS (word % BANK_WORDS + count) || leb (voice_range END) (end_of word l))
+has_no_place room word count l = nat_lt room (word + count) || (nat_lt BANK_WORDS (word % BANK_WORDS + count) || nat_le (voice_range END) (end_of word l))
 
 -- all of them, in their order
 abbrev pub import_tests : List ℕ → ℕ → ℕ → List (Bool × Refusal)
@@ -74,13 +74,13 @@ taken_at word pcm l = record { answer = Done; start = start_of word l; end = end
 
 unfoldable pub imported : List ℕ → ℕ → ℕ → Imported
 imported file room word =
-    cond (is_done (import_answer file room word)) (taken_at word (data_of (chunks_of file)) (loop_of file (chunks_of file))) (refused_by (import_answer file room word))
+    if is_done (import_answer file room word) then taken_at word (data_of (chunks_of file)) (loop_of file (chunks_of file)) else refused_by (import_answer file room word)
 
 -- ---- the memory afterwards: the samples stand from the named word on
 
 unfoldable pub import_memory : List ℕ → List ℕ → ℕ → List ℕ
 import_memory file memory word =
-    cond (is_done (import_answer file (length memory) word)) (with_part memory word (samples_of file (data_of (chunks_of file)))) memory
+    if is_done (import_answer file (length memory) word) then with_part memory word (samples_of file (data_of (chunks_of file))) else memory
 
 -- the promise: all that is answered, and every word of the memory afterwards
 pub record Imports (file memory : List ℕ) (word : ℕ) (r : Imported) (after : List ℕ) : Type 0 where

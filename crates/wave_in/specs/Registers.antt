@@ -1,6 +1,6 @@
 -- A loop as the registers of a voice, where the first sample of its file is put into a word of sample memory.
 -- In order: a sample's place; START; END; the loop bits. Assumes nothing.
-use Rattle.std.specs.Prelude.{ℕ, ◌+◌, ◌*◌, ◌%◌, cond, eqb, Option, Some, None}
+use Rattle.std.specs.Prelude.{ℕ, ◌+◌, ◌*◌, ◌%◌, if◌then◌else◌, ◌==◌, Option, Some, None}
 use Rattle.control.specs.Control.{with_bit, LPE, BLE, DIR}
 use Rattle.sample.specs.Sample.{BANK_WORDS, WHOLE_SAMPLE}
 use Rattle.wave.specs.declared.Loop.{Loop}
@@ -23,7 +23,7 @@ end_of word (Some l) = register_at word (l.last + 1)
 --   1  bidirectional                   LPE, BLE
 --   2  one-directional, in reverse     LPE, DIR
 abbrev pub type_bits : ℕ → ℕ
-type_bits type = let one = with_bit LPE 1 0 in cond (eqb type 1) (with_bit BLE 1 one) (cond (eqb type 2) (with_bit DIR 1 one) one)
+type_bits type = let one = with_bit LPE 1 0 in if type == 1 then with_bit BLE 1 one else if type == 2 then with_bit DIR 1 one else one
 
 unfoldable pub loop_bits : Option Loop → ℕ
 loop_bits None = 0
