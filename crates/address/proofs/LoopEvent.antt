@@ -10,7 +10,7 @@ use lib.IntN.{ℤ, pos, ◌+ℤ◌, ◌-ℤ◌}
 use lib.Signed.{le_z, lt_z}
 use Rattle.numbers.specs.Numbers.{word}
 use Rattle.numbers.proofs.Tests.{either, split}
-use Rattle.control.specs.Control.{flag_of, with_bit, STP0, LEI, LPE, BLE, IRQE, DIR, IRQ}
+use Rattle.control.specs.Control.{flag_of, with_bit, stp0_bit, lei_bit, lpe_bit, ble_bit, irqe_bit, dir_bit, irq_bit}
 use Rattle.control.proofs.Bits.{flag_put, flag_other}
 use Rattle.address.specs.declared.Place.{Place}
 use Rattle.address.specs.Address.{raised, forward, reverse, stepped}
@@ -23,18 +23,18 @@ use Rattle.address.proofs.Laws.{raised_on, raised_off, forward_one, reverse_one}
 pub stepped-event : (CR FC START END ACCUM : ℕ)
     → stepped CR FC START END ACCUM
     ≡ cond (loop_event CR FC START END ACCUM)
-    (cond (flag_of DIR CR)
+    (cond (flag_of dir_bit CR)
     (event CR START (pos END -ℤ (pos START -ℤ (pos ACCUM -ℤ pos FC))) (pos START +ℤ (pos START -ℤ (pos ACCUM -ℤ pos FC))) 0)
     (event CR END (pos START +ℤ (pos ACCUM +ℤ pos FC -ℤ pos END)) (pos END -ℤ (pos ACCUM +ℤ pos FC -ℤ pos END)) 1))
-    (record { accum = word 32 (cond (flag_of DIR CR) (pos ACCUM -ℤ pos FC) (pos ACCUM +ℤ pos FC)); cr = CR })
+    (record { accum = word 32 (cond (flag_of dir_bit CR) (pos ACCUM -ℤ pos FC) (pos ACCUM +ℤ pos FC)); cr = CR })
 unfolding stepped forward reverse loop_event
-stepped-event CR FC START END ACCUM = split _ (flag_of DIR CR)
-    (λ d. split _ (flag_of LEI CR)
+stepped-event CR FC START END ACCUM = split _ (flag_of dir_bit CR)
+    (λ d. split _ (flag_of lei_bit CR)
     (λ l. rw (d, l))
     (λ l. split _ (lt_z (pos ACCUM -ℤ pos FC) (pos START))
     (λ t. rw (d, l, t) (reverse_one CR START END _))
     (λ t. rw (d, l, t))))
-    (λ d. split _ (flag_of LEI CR)
+    (λ d. split _ (flag_of lei_bit CR)
     (λ l. rw (d, l))
     (λ l. split _ (le_z (pos ACCUM +ℤ pos FC) (pos END))
     (λ t. rw (d, l, t))
@@ -42,31 +42,31 @@ stepped-event CR FC START END ACCUM = split _ (flag_of DIR CR)
 
 -- ---- the interrupt flag
 
-raised_flag : (CR : ℕ) → flag_of IRQ (raised CR) ≡ (flag_of IRQ CR || flag_of IRQE CR)
-raised_flag CR = split _ (flag_of IRQE CR)
-    (λ t. rw (raised_on CR t, t, flag_put IRQ 1 CR (omega arith)) (sym (or-true (flag_of IRQ CR))))
-    (λ t. rw (raised_off CR t, t) (sym (or-false (flag_of IRQ CR))))
+raised_flag : (CR : ℕ) → flag_of irq_bit (raised CR) ≡ (flag_of irq_bit CR || flag_of irqe_bit CR)
+raised_flag CR = split _ (flag_of irqe_bit CR)
+    (λ t. rw (raised_on CR t, t, flag_put irq_bit 1 CR (omega arith)) (sym (or-true (flag_of irq_bit CR))))
+    (λ t. rw (raised_off CR t, t) (sym (or-false (flag_of irq_bit CR))))
 
 -- the bits that an event puts besides are not the flag
 event_flag : (CR passed : ℕ) (across back : ℤ) (direction : ℕ) → direction ≤ 1
-    → flag_of IRQ (event CR passed across back direction).cr ≡ (flag_of IRQ CR || flag_of IRQE CR)
+    → flag_of irq_bit (event CR passed across back direction).cr ≡ (flag_of irq_bit CR || flag_of irqe_bit CR)
 unfolding event
 event_flag CR passed across back direction h =
-    let P : Place → Type 0 = λ p. flag_of IRQ p.cr ≡ (flag_of IRQ CR || flag_of IRQE CR) in
+    let P : Place → Type 0 = λ p. flag_of irq_bit p.cr ≡ (flag_of irq_bit CR || flag_of irqe_bit CR) in
     let r = raised_flag CR in
-    either P (flag_of BLE CR) _ _
-    (λ _. either P (flag_of LPE CR) _ _
-    (λ _. flag_other IRQ DIR direction (raised CR) h (λ e. omega arith) ∙ r)
-    (λ _. flag_other IRQ LEI 1 (with_bit BLE 0 (raised CR)) (omega arith) (λ e. omega arith) ∙ flag_other IRQ BLE 0 (raised CR) (omega arith) (λ e. omega arith) ∙ r))
-    (λ _. either P (flag_of LPE CR) _ _
+    either P (flag_of ble_bit CR) _ _
+    (λ _. either P (flag_of lpe_bit CR) _ _
+    (λ _. flag_other irq_bit dir_bit direction (raised CR) h (λ e. omega arith) ∙ r)
+    (λ _. flag_other irq_bit lei_bit 1 (with_bit ble_bit 0 (raised CR)) (omega arith) (λ e. omega arith) ∙ flag_other irq_bit ble_bit 0 (raised CR) (omega arith) (λ e. omega arith) ∙ r))
+    (λ _. either P (flag_of lpe_bit CR) _ _
     (λ _. r)
-    (λ _. flag_other IRQ STP0 1 (raised CR) (omega arith) (λ e. omega arith) ∙ r))
+    (λ _. flag_other irq_bit stp0_bit 1 (raised CR) (omega arith) (λ e. omega arith) ∙ r))
 
-pub stepped_flag : (CR FC START END ACCUM : ℕ) → flag_of IRQ (stepped CR FC START END ACCUM).cr ≡ (flag_of IRQ CR || (flag_of IRQE CR && loop_event CR FC START END ACCUM))
+pub stepped_flag : (CR FC START END ACCUM : ℕ) → flag_of irq_bit (stepped CR FC START END ACCUM).cr ≡ (flag_of irq_bit CR || (flag_of irqe_bit CR && loop_event CR FC START END ACCUM))
 stepped_flag CR FC START END ACCUM =
-    ap (λ (p : Place). flag_of IRQ p.cr) (stepped-event CR FC START END ACCUM)
+    ap (λ (p : Place). flag_of irq_bit p.cr) (stepped-event CR FC START END ACCUM)
     ∙ split _ (loop_event CR FC START END ACCUM)
-    (λ t. rw (t, and-true (flag_of IRQE CR)) (either (λ (p : Place). flag_of IRQ p.cr ≡ (flag_of IRQ CR || flag_of IRQE CR)) (flag_of DIR CR) _ _
+    (λ t. rw (t, and-true (flag_of irqe_bit CR)) (either (λ (p : Place). flag_of irq_bit p.cr ≡ (flag_of irq_bit CR || flag_of irqe_bit CR)) (flag_of dir_bit CR) _ _
     (λ _. event_flag CR START _ _ 0 (omega arith))
     (λ _. event_flag CR END _ _ 1 (omega arith))))
-    (λ t. rw (t, and-false (flag_of IRQE CR)) (sym (or-false (flag_of IRQ CR))))
+    (λ t. rw (t, and-false (flag_of irqe_bit CR)) (sym (or-false (flag_of irq_bit CR))))

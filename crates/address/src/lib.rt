@@ -7,8 +7,8 @@
 ghost use Rattle.std.specs.Prelude.{◌≡◌, ◌<◌, ◌≤◌, if◌then◌else◌};
 ghost use Rattle.numbers.specs.Numbers.{Within, word};
 ghost use Rattle.address.specs.Address.{raised, stepped};
-ghost use Rattle.address.specs.Address.{forward as Address-as-forward, reverse as Address-as-reverse};
-ghost use Rattle.address.specs.Event.{event as Event-as-event};
+ghost use Rattle.address.specs.Address.{forward, reverse};
+ghost use Rattle.address.specs.Event.{event};
 
 use control::LoopMode;
 
@@ -34,7 +34,7 @@ pub fn step(cr: u32, fc: u32, start: u32, end: u32, accum: u32) -> Place
 }
 
 fn forward(cr: u32, fc: u32, start: u32, end: u32, accum: u32) -> Place
-    ensures { result ≡ Address-as-forward cr fc start end accum }
+    ensures { result ≡ forward cr fc start end accum }
 {
     let target = i64::from(accum) + i64::from(fc);
     if control::flag(control::LEI, cr) || target <= i64::from(end) {
@@ -50,7 +50,7 @@ fn forward(cr: u32, fc: u32, start: u32, end: u32, accum: u32) -> Place
 }
 
 fn reverse(cr: u32, fc: u32, start: u32, end: u32, accum: u32) -> Place
-    ensures { result ≡ Address-as-reverse cr fc start end accum }
+    ensures { result ≡ reverse cr fc start end accum }
 {
     let target = i64::from(accum) - i64::from(fc);
     if control::flag(control::LEI, cr) || target >= i64::from(start) {
@@ -70,7 +70,7 @@ fn reverse(cr: u32, fc: u32, start: u32, end: u32, accum: u32) -> Place
 fn event(cr: u32, passed: u32, across: i64, back: i64, reverse: bool) -> Place
     requires within { Within 17179869184 across }
     requires within_2 { Within 17179869184 back }
-    ensures { result ≡ Event-as-event cr passed across back (if reverse then 1 else 0) }
+    ensures { result ≡ event cr passed across back (if reverse then 1 else 0) }
 {
     let up = raise(cr);
     match control::loop_mode(cr) {

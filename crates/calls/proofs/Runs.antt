@@ -12,7 +12,7 @@ use lib.IntN.{ℤ}
 use lib.ListN.{get_or}
 use Rattle.numbers.proofs.Tests.{either}
 use Rattle.answer.specs.Answer.{Answer, Done, is_done}
-use Rattle.machine.specs.Words.{PAGE, IRQV, SLOW, SUMS}
+use Rattle.machine.specs.Words.{page_word, irqv_word, slow_word, sums_word}
 use Rattle.machine.proofs.Valid.{Sound}
 use Rattle.frame.specs.Missing.{missed_in}
 use Rattle.frame.specs.Frame.{played, heard, closed, frame_answer, frame_record, frame_output, frame_missing}
@@ -54,7 +54,7 @@ module _ (m memory : List ℕ) (out : List ℤ) (s : Sound m) where
   pub frame_sound : Sound (after m (Frame memory out))
   frame_sound = after_frame Sound m memory out s (sound_closed (played memory m) (all_turned memory s).sound)
 
-  pub frame_word : (i : ℕ) → PAGE ≤ i → i < SUMS → i ≢ IRQV → i ≢ SLOW → get_or (after m (Frame memory out)) i 0 ≡ get_or m i 0
+  pub frame_word : (i : ℕ) → page_word ≤ i → i < sums_word → i ≢ irqv_word → i ≢ slow_word → get_or (after m (Frame memory out)) i 0 ≡ get_or m i 0
   frame_word i h l d e = after_frame (λ (n : List ℕ). get_or n i 0 ≡ get_or m i 0) m memory out refl (closed_stays (all_turned memory s) i h l d e)
 
 -- one that is not refused

@@ -6,7 +6,7 @@ use mathlib.Core.List.{List}
 use Prim.Native.Nat.{ℕ, ◌+◌, ◌*◌, ◌^◌, ◌<◌}
 use native.Mathlib.Omega.{arith}
 use lib.ListN.{get_or, set}
-use Rattle.machine.specs.Words.{PAGE, WRITE_LATCH, voice_word, cut, with_mask}
+use Rattle.machine.specs.Words.{page_word, write_latch_word, voice_word, cut, with_mask}
 use Rattle.machine.proofs.Valid.{Sound, is_valid}
 use Rattle.registers.specs.Registers.{stored, register_of}
 use Rattle.registers.specs.declared.Register.TheVariants.{Word}
@@ -19,13 +19,13 @@ use Rattle.calls.specs.Calls.{after, run}
 use Rattle.calls.specs.WholeWrite.{write_calls}
 
 pub run_write : (m : List ℕ) (v j x : ℕ) → Sound m → v < 32 → j < 20 → x < 2 ^ 32
-    → run m (write_calls v j x) ≡ set (with_mask (set (set m PAGE (page_for v j)) (voice_word v j) (cut (voice_word v j) x))) WRITE_LATCH 0
+    → run m (write_calls v j x) ≡ set (with_mask (set (set m page_word (page_for v j)) (voice_word v j) (cut (voice_word v j) x))) write_latch_word 0
 unfolding run after write_calls bytes_to stored
 run_write m v j x s hv hj hx =
     let p = page_for v j in
     let r = register_for j in
     let h = page_lt v j hv in
     let n = write_record m (4 * 15 + 3) p in
-    let e : register_of (get_or n PAGE 0) r ≡ Word (voice_word v j) = rw (page_after p s (omega arith)) (named v j hv hj) in
+    let e : register_of (get_or n page_word 0) r ≡ Word (voice_word v j) = rw (page_after p s (omega arith)) (named v j hv hj) in
     whole_leaves n r x v j (write_valid m (4 * 15 + 3) p (omega arith) (is_valid m s)) (register_lt j hj) hx hv hj e
-    ∙ rw (page_written p s (omega arith)) (latch_covered (set m PAGE p) 0 (Word (voice_word v j)) x)
+    ∙ rw (page_written p s (omega arith)) (latch_covered (set m page_word p) 0 (Word (voice_word v j)) x)

@@ -11,7 +11,7 @@ use borrow.Author.Tests.{lt-ltb, le-ltb, leb-true}
 use lib.Dec.{leb, ltb}
 use lib.ListN.{length}
 use Rattle.numbers.proofs.Tests.{split, cases}
-use Rattle.chunks.specs.Chunks.{Listing, unreadable, chunks, before, chunks_from, chunk_at, next, is_whole, HEADER_BYTES, FIRST_CHUNK, riff_end, is_headed, listing}
+use Rattle.chunks.specs.Chunks.{Listing, unreadable, chunks, before, chunks_from, chunk_at, next, is_whole, header_bytes, first_chunk, riff_end, is_headed, listing}
 use Rattle.chunks.specs.Row.{InRow}
 use Rattle.chunks.specs.declared.Chunk.{Chunk}
 use Rattle.chunks.proofs.Headed.{headed_within}
@@ -22,9 +22,9 @@ use Rattle.chunks.proofs.Headed.{headed_within}
 module _ (file : List ℕ) (end i : ℕ) where
   pub whole_before : is_whole file end i ≡ true → next (chunk_at file i) ≤ end
   unfolding is_whole
-  whole_before h = leb-true (next (chunk_at file i)) end ((and-eq-true_iff (leb (i + HEADER_BYTES) end) (leb (next (chunk_at file i)) end)).0 h).1
+  whole_before h = leb-true (next (chunk_at file i)) end ((and-eq-true_iff (leb (i + header_bytes) end) (leb (next (chunk_at file i)) end)).0 h).1
 
-  pub goes_on : i + HEADER_BYTES ≤ next (chunk_at file i)
+  pub goes_on : i + header_bytes ≤ next (chunk_at file i)
   unfolding chunk_at
   goes_on = omega arith
 
@@ -86,19 +86,19 @@ module _ (file : List ℕ) (end : ℕ) where
 
   -- ---- chunks in a row
 
-  pub row_few : (i : ℕ) (cs : List Chunk) → InRow file end i cs → i + HEADER_BYTES * length cs ≤ end
+  pub row_few : (i : ℕ) (cs : List Chunk) → InRow file end i cs → i + header_bytes * length cs ≤ end
   row_few i [] r = omega arith
   row_few i (c ∷ cs) r =
-      let g : i + HEADER_BYTES ≤ next c = rw r.1 (goes_on file end i) in
+      let g : i + header_bytes ≤ next c = rw r.1 (goes_on file end i) in
       omega (arith, row_few (next c) cs r.3)
 
 -- ---- the file
 
 module _ (file : List ℕ) (cs : List Chunk) (headed : is_headed file ≡ true) where
-  pub listing_row : listing file ≡ chunks cs → InRow file (riff_end file) FIRST_CHUNK cs
+  pub listing_row : listing file ≡ chunks cs → InRow file (riff_end file) first_chunk cs
   unfolding listing
-  listing_row e = read_in_row file (riff_end file) (riff_end file) FIRST_CHUNK cs (headed_within file headed).0 (omega arith) (rw headed at e)
+  listing_row e = read_in_row file (riff_end file) (riff_end file) first_chunk cs (headed_within file headed).0 (omega arith) (rw headed at e)
 
-  pub row_listing : InRow file (riff_end file) FIRST_CHUNK cs → listing file ≡ chunks cs
+  pub row_listing : InRow file (riff_end file) first_chunk cs → listing file ≡ chunks cs
   unfolding listing
-  row_listing r = rw headed (row_read file (riff_end file) (riff_end file) FIRST_CHUNK cs (omega arith) r)
+  row_listing r = rw headed (row_read file (riff_end file) (riff_end file) first_chunk cs (omega arith) r)

@@ -7,30 +7,30 @@ use Rattle.chunks.specs.declared.Chunk.{Chunk}
 -- ---- names: four letters, as a number of four bytes
 
 -- "RIFF", "WAVE"
-abbrev pub RIFF : ℕ
-RIFF = little (82 ∷ 73 ∷ 70 ∷ 70 ∷ [])
+abbrev pub riff_name : ℕ
+riff_name = little (82 ∷ 73 ∷ 70 ∷ 70 ∷ [])
 
-abbrev pub WAVE : ℕ
-WAVE = little (87 ∷ 65 ∷ 86 ∷ 69 ∷ [])
+abbrev pub wave_name : ℕ
+wave_name = little (87 ∷ 65 ∷ 86 ∷ 69 ∷ [])
 
 -- "fmt ", "data", "smpl"
-abbrev pub FORMAT : ℕ
-FORMAT = little (102 ∷ 109 ∷ 116 ∷ 32 ∷ [])
+abbrev pub format_name : ℕ
+format_name = little (102 ∷ 109 ∷ 116 ∷ 32 ∷ [])
 
-abbrev pub DATA : ℕ
-DATA = little (100 ∷ 97 ∷ 116 ∷ 97 ∷ [])
+abbrev pub data_name : ℕ
+data_name = little (100 ∷ 97 ∷ 116 ∷ 97 ∷ [])
 
-abbrev pub SAMPLER : ℕ
-SAMPLER = little (115 ∷ 109 ∷ 112 ∷ 108 ∷ [])
+abbrev pub sampler_name : ℕ
+sampler_name = little (115 ∷ 109 ∷ 112 ∷ 108 ∷ [])
 
 -- ---- a chunk: its name, the place of its first byte, and how many bytes it has
 
 -- its header, of eight bytes, is its name and its size
-abbrev pub HEADER_BYTES : ℕ
-HEADER_BYTES = 8
+abbrev pub header_bytes : ℕ
+header_bytes = 8
 
 unfoldable pub chunk_at : List ℕ → ℕ → Chunk
-chunk_at file i = record { name = little4_at file i; place = i + HEADER_BYTES; size = little4_at file (i + 4) }
+chunk_at file i = record { name = little4_at file i; place = i + header_bytes; size = little4_at file (i + 4) }
 
 -- where the next one's header is: an odd number of bytes is padded by one
 abbrev pub next : Chunk → ℕ
@@ -38,7 +38,7 @@ next c = c.place + (c.size + c.size % 2)
 
 -- its header, its bytes and its pad lie before the end
 unfoldable pub is_whole : List ℕ → ℕ → ℕ → Bool
-is_whole file end i = nat_le (i + HEADER_BYTES) end && nat_le (next (chunk_at file i)) end
+is_whole file end i = nat_le (i + header_bytes) end && nat_le (next (chunk_at file i)) end
 
 -- ---- the chunks from a place to the end
 
@@ -62,29 +62,29 @@ chunks_from (suc n) file end i =
 -- ---- the file: "RIFF", a length, "WAVE", and from byte 12 on chunks. The length counts from byte 8 on, and the file
 -- may go on behind it.
 
-abbrev pub MOST_FILE_BYTES : ℕ
-MOST_FILE_BYTES = 65536
+abbrev pub most_file_bytes : ℕ
+most_file_bytes = 65536
 
-abbrev pub FIRST_CHUNK : ℕ
-FIRST_CHUNK = 12
+abbrev pub first_chunk : ℕ
+first_chunk = 12
 
 abbrev pub riff_length : List ℕ → ℕ
 riff_length file = little4_at file 4
 
 abbrev pub riff_end : List ℕ → ℕ
-riff_end file = HEADER_BYTES + riff_length file
+riff_end file = header_bytes + riff_length file
 
 -- not too long; RIFF, and WAVE within its length; not shorter than that length says
 unfoldable pub is_headed : List ℕ → Bool
 is_headed file =
-    nat_le (length file) MOST_FILE_BYTES
-    && (little4_at file 0 == RIFF
-    && (little4_at file 8 == WAVE
+    nat_le (length file) most_file_bytes
+    && (little4_at file 0 == riff_name
+    && (little4_at file 8 == wave_name
     && (nat_le 4 (riff_length file)
     && nat_le (riff_end file) (length file))))
 
 unfoldable pub listing : List ℕ → Listing
-listing file = if is_headed file then chunks_from (riff_end file) file (riff_end file) FIRST_CHUNK else unreadable
+listing file = if is_headed file then chunks_from (riff_end file) file (riff_end file) first_chunk else unreadable
 
 unfoldable pub is_unreadable : Listing → Bool
 is_unreadable unreadable = true

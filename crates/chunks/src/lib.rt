@@ -4,7 +4,7 @@
 #![tactic(auto)]
 
 ghost use Rattle.std.specs.Prelude.{◌≡◌, ◌+◌, ◌≤◌, length};
-ghost use Rattle.layout.specs.Bytes.{little4_at as Bytes-as-little4_at};
+ghost use Rattle.layout.specs.Bytes.{little4_at};
 ghost use Rattle.chunks.specs.Kind.{kind_of};
 ghost use Rattle.chunks.specs.Walk.{opened_of, reach_of};
 
@@ -110,7 +110,7 @@ pub fn chunk_at(file: &[u8], end: usize, at: usize) -> Option<(Chunk, usize)>
 #[tactic(auto, using(layout::proofs::Endian::little_4, layout::proofs::Endian::little_4_at, layout::proofs::Bytes::part_4))]
 fn number_at(file: &[u8], at: usize) -> u32
     requires { at + 4 ≤ length file.now }
-    ensures { result ≡ Bytes-as-little4_at file.now at }
+    ensures { result ≡ little4_at file.now at }
 {
     u32::from_le_bytes(layout::array_at(file, at))
 }

@@ -23,7 +23,7 @@ use Rattle.address.specs.Address.{raised, forward_event, forward, stepped}
 use Rattle.sample.specs.Sample.{first_at, second_at, sample_of, fetched, fraction, interpolated, missing_of}
 use Rattle.voice.specs.Turn.{last_outputs, ramped_levels, with_outputs, moved, stopped_turn, sampled, running_turn, turn_of}
 use Rattle.answer.specs.declared.Refusal.TheVariants.{OutputLength}
-use Rattle.machine.specs.Words.{CR, ACCUM, ACTV, voice_word, shared_bits, bits_of, cut, cut_to, is_vector, has_true_mask, waiting_voices, with_mask, valid, IRQV, NO_INTERRUPT}
+use Rattle.machine.specs.Words.{cr_word, accum_word, actv_word, voice_word, shared_bits, bits_of, cut, cut_to, is_vector, has_true_mask, waiting_voices, with_mask, valid, irqv_word, no_interrupt}
 use Rattle.machine.specs.Voices.{voice_at, put_voice}
 use Rattle.machine.specs.Check.{checked}
 use Rattle.machine.specs.Waiting.{mask_given}
@@ -101,10 +101,10 @@ missed =
     ∷ (missed_in memory (playing 0 (beyond ∷ [])), 2)
     ∷ (missed_in memory (playing 0 (wraps ∷ [])), 1)
     ∷ (missed_in [] (playing 0 (wraps ∷ [])), 2)
-    ∷ (missed_in memory (playing 0 (set beyond CR 777 ∷ set beyond CR 778 ∷ [])), 0)
+    ∷ (missed_in memory (playing 0 (set beyond cr_word 777 ∷ set beyond cr_word 778 ∷ [])), 0)
     ∷ (missed_in memory (playing 0 (high ∷ ends ∷ beyond ∷ [])), 3)
     ∷ (missed_in memory (playing 4 (beyond ∷ beyond ∷ [])), 4)
-    ∷ (missed_in memory (set (playing 4 (beyond ∷ beyond ∷ [])) ACTV 4), 2)
+    ∷ (missed_in memory (set (playing 4 (beyond ∷ beyond ∷ [])) actv_word 4), 2)
     ∷ []
 
 pub missed_counted : map (λ (row : ℕ × ℕ). row.0) missed ≡ map (λ (row : ℕ × ℕ). row.1) missed
@@ -142,7 +142,7 @@ unfolding framed
 one_missing = refl
 
 -- past END, back to START
-pub one_stepped : get_or (frame_record one memory silence) (voice_word 0 ACCUM) 0 ≡ 2049
+pub one_stepped : get_or (frame_record one memory silence) (voice_word 0 accum_word) 0 ≡ 2049
 unfolding framed
 one_stepped = refl
 
@@ -155,7 +155,7 @@ two_heard = refl
 
 -- voice v, stopped, with its flag set, and so in the mask
 abbrev waits_alone : ℕ → List ℕ
-waits_alone v = with_mask (set fresh (voice_word v CR) 131)
+waits_alone v = with_mask (set fresh (voice_word v cr_word) 131)
 
 abbrev pub flagged : List ℕ
 flagged = waits_alone 0
@@ -170,17 +170,17 @@ one_waits = refl
 
 -- what a frame answers, and what the vector is after it
 abbrev vector_after : List ℕ → List ℤ → Answer × ℕ
-vector_after m out = (frame_answer m memory out, get_or (frame_record m memory out) IRQV 0)
+vector_after m out = (frame_answer m memory out, get_or (frame_record m memory out) irqv_word 0)
 
 -- an empty one takes the voice that waits; it stays empty where none does, and where the one that does, voice 7, is not active
 pub vectors_after :
     (vector_after flagged silence ≡ (Done, 0))
-    × ((vector_after one silence ≡ (Done, NO_INTERRUPT)) × (vector_after (set (waits_alone 7) ACTV 6) silence ≡ (Done, NO_INTERRUPT)))
+    × ((vector_after one silence ≡ (Done, no_interrupt)) × (vector_after (set (waits_alone 7) actv_word 6) silence ≡ (Done, no_interrupt)))
 unfolding framed
 vectors_after = (refl, (refl, refl))
 
 -- What frame/proofs/Vector asks of the frame is needed: a vector that names a voice stays, whoever waits; and one that is empty stays so where the
 -- frame is refused, here for want of an output.
-pub vectors_kept : (vector_after (set flagged IRQV 5) silence ≡ (Done, 5)) × (vector_after flagged [] ≡ (Err OutputLength, NO_INTERRUPT))
+pub vectors_kept : (vector_after (set flagged irqv_word 5) silence ≡ (Done, 5)) × (vector_after flagged [] ≡ (Err OutputLength, no_interrupt))
 unfolding framed
 vectors_kept = (refl, refl)

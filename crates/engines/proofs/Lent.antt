@@ -16,7 +16,7 @@ use Rattle.answer.specs.Answer.{is_done}
 use Rattle.answer.specs.declared.Refusal.TheVariants.{Pot}
 use Rattle.answer.proofs.Refusals.{is_done_lem}
 use Rattle.channel.specs.Channel.{put_out}
-use Rattle.machine.specs.Words.{SUMS, OUTPUT_VALUES, valid}
+use Rattle.machine.specs.Words.{sums_word, output_values, valid}
 use Rattle.machine.specs.Reset.{reset_record}
 use Rattle.machine.specs.Waiting.{waiting_answer}
 use Rattle.machine.proofs.Fresh.{fresh-valid}
@@ -99,7 +99,7 @@ values_after (Ask.SetPot p) m memory out h = h
 values_after Ask.Waiting m memory out h = h
 values_after Ask.Frame m memory out h =
     either (All I32) (is_done (frame_answer m memory out)) (heard (played memory m)) out
-    (λ _. all_mapped I32 put_out (take OUTPUT_VALUES (drop SUMS (played memory m))) put_out-bits)
+    (λ _. all_mapped I32 put_out (take output_values (drop sums_word (played memory m))) put_out-bits)
     (λ _. h)
 
 -- ---- both

@@ -10,7 +10,7 @@ use lib.IntN.{ℤ, pos, nat_abs}
 use lib.ListN.{get_or, replicate}
 use native.Mathlib.Omega.{arith}
 use Rattle.answer.specs.Answer.{is_done}
-use Rattle.machine.specs.Words.{ACCUM, voice_word}
+use Rattle.machine.specs.Words.{accum_word, voice_word}
 use Rattle.machine.proofs.Valid.{is_valid}
 use Rattle.frame.specs.Frame.{frame_record, frame_output}
 use Rattle.frame.proofs.Answered.{done_frame}
@@ -87,7 +87,7 @@ module _ (e : Engine) (keeps : Keeps e) where
   unfolding after framed
   not_frozen h =
       let p = sym (keeps one memory silence Ask.Frame one_lent).leaves ∙ h one memory silence Ask.Frame one_lent in
-      let q : ◌≡◌ {A = ℕ} 2049 10240 = sym one_stepped ∙ ap (λ m. get_or m (voice_word 0 ACCUM) 0) p in
+      let q : ◌≡◌ {A = ℕ} 2049 10240 = sym one_stepped ∙ ap (λ m. get_or m (voice_word 0 accum_word) 0) p in
       omega arith
 
   pub not_repeats : Repeats e → ⊥

@@ -4,7 +4,7 @@
 use Rattle.std.specs.Prelude.{◌≡◌, IsTrue, IsFalse, List, [], ◌∷◌, ℕ, ◌^◌, ◌<◌, ℤ, pos, replicate}
 use Rattle.numbers.specs.Numbers.{Bits}
 use Rattle.answer.specs.Answer.{Answer, is_done}
-use Rattle.machine.specs.Words.{OUTPUT_VALUES}
+use Rattle.machine.specs.Words.{output_values}
 use Rattle.calls.specs.Calls.{answer_to, after, given_by}
 use Rattle.calls.specs.Asks.{call_of, output_of, Performs}
 use Rattle.calls.specs.declared.Ask.{Ask}
@@ -82,7 +82,7 @@ RefusesAll e = (m memory : List ℕ) (out : List ℤ) (ask : Ask) → Lent m mem
 abbrev pub PutsOutZeros : Engine → Type 0
 PutsOutZeros e =
     (m memory : List ℕ) (out : List ℤ) → Lent m memory out Ask.Frame
-    → IsTrue (is_done (e m memory out Ask.Frame).answer) → (e m memory out Ask.Frame).sound ≡ replicate OUTPUT_VALUES (pos 0)
+    → IsTrue (is_done (e m memory out Ask.Frame).answer) → (e m memory out Ask.Frame).sound ≡ replicate output_values (pos 0)
 
 -- every frame says that no word was missing
 abbrev pub MissesNothing : Engine → Type 0

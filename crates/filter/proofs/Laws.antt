@@ -11,7 +11,7 @@ use Rattle.numbers.specs.Numbers.{floor_div, Bits}
 use Rattle.numbers.proofs.Difference.{◌⊖◌, ⊖_eq, ⊖-add, ⊖-sub, ⊖-mul}
 use Rattle.numbers.proofs.Words.{biased, bits-⊖, floor_up, held_mag}
 use Rattle.numbers.proofs.Tests.{either}
-use Rattle.control.specs.Control.{flag_of, LP3, LP4}
+use Rattle.control.specs.Control.{flag_of, lp3_bit, lp4_bit}
 use Rattle.filter.specs.declared.Poles.{Poles}
 use Rattle.filter.specs.Filter.{low_pass, high_pass, pole3, pole4, filtered}
 
@@ -47,25 +47,25 @@ high_bits k x x' y = record { bits = suc-le-suc (held_mag 131071 _) }
 -- ---- poles 3 and 4 by their bits
 
 module _ (cr k₁ k₂ : ℕ) (x x' y : ℤ) where
-  pub pole4_low : flag_of LP4 cr ≡ true → pole4 cr k₂ x x' y ≡ low_pass k₂ x y
+  pub pole4_low : flag_of lp4_bit cr ≡ true → pole4 cr k₂ x x' y ≡ low_pass k₂ x y
   unfolding pole4
   pole4_low t = rw t
 
-  pub pole4_high : flag_of LP4 cr ≡ false → pole4 cr k₂ x x' y ≡ high_pass k₂ x x' y
+  pub pole4_high : flag_of lp4_bit cr ≡ false → pole4 cr k₂ x x' y ≡ high_pass k₂ x x' y
   unfolding pole4
   pole4_high t = rw t
 
-  pub pole3_one : flag_of LP3 cr ≡ true → pole3 cr k₁ k₂ x x' y ≡ low_pass k₁ x y
+  pub pole3_one : flag_of lp3_bit cr ≡ true → pole3 cr k₁ k₂ x x' y ≡ low_pass k₁ x y
   unfolding pole3
-  pole3_one t = rw t (either (λ z. z ≡ low_pass k₁ x y) (flag_of LP4 cr) (low_pass k₁ x y) (low_pass k₁ x y) (λ u. refl) (λ u. refl))
+  pole3_one t = rw t (either (λ z. z ≡ low_pass k₁ x y) (flag_of lp4_bit cr) (low_pass k₁ x y) (low_pass k₁ x y) (λ u. refl) (λ u. refl))
 
   -- where LP3 is 0, pole 3 is of pole 4's kind
-  pub pole3-zero : flag_of LP3 cr ≡ false → pole3 cr k₁ k₂ x x' y ≡ pole4 cr k₂ x x' y
+  pub pole3-zero : flag_of lp3_bit cr ≡ false → pole3 cr k₁ k₂ x x' y ≡ pole4 cr k₂ x x' y
   unfolding pole3 pole4
   pole3-zero t = rw t
 
 -- ---- the four outputs depend on those two bits of the control register alone
 
-pub filtered_passes : (c d K₁ K₂ : ℕ) (x : ℤ) (p : Poles) → flag_of LP3 c ≡ flag_of LP3 d → flag_of LP4 c ≡ flag_of LP4 d → filtered c K₁ K₂ x p ≡ filtered d K₁ K₂ x p
+pub filtered_passes : (c d K₁ K₂ : ℕ) (x : ℤ) (p : Poles) → flag_of lp3_bit c ≡ flag_of lp3_bit d → flag_of lp4_bit c ≡ flag_of lp4_bit d → filtered c K₁ K₂ x p ≡ filtered d K₁ K₂ x p
 unfolding filtered pole3 pole4
 filtered_passes c d K₁ K₂ x p e f = rw (e, f)

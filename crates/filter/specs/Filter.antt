@@ -2,7 +2,7 @@
 -- poles 3 and 4, and the four outputs. Assumes nothing.
 use Rattle.std.specs.Prelude.{ℕ, ◌+◌, ◌/◌, if◌then◌else◌, ℤ, pos, ◌+ℤ◌, ◌-ℤ◌, ◌*ℤ◌}
 use Rattle.numbers.specs.Numbers.{floor_div, held, minus}
-use Rattle.control.specs.Control.{flag_of, LP3, LP4}
+use Rattle.control.specs.Control.{flag_of, lp3_bit, lp4_bit}
 use Rattle.filter.specs.declared.Poles.{Poles}
 
 -- low pass, of the input x and the pole's last output y: Y = y + k * (x - y) / 4096
@@ -26,12 +26,12 @@ coefficient K = K / 16
 --    1   1    low, K1    low, K2
 unfoldable pub pole3 : ℕ → ℕ → ℕ → ℤ → ℤ → ℤ → ℤ
 pole3 cr k₁ k₂ x x' y =
-    if flag_of LP4 cr then (if flag_of LP3 cr then low_pass k₁ x y else low_pass k₂ x y)
-    else if flag_of LP3 cr then low_pass k₁ x y
+    if flag_of lp4_bit cr then (if flag_of lp3_bit cr then low_pass k₁ x y else low_pass k₂ x y)
+    else if flag_of lp3_bit cr then low_pass k₁ x y
     else high_pass k₂ x x' y
 
 unfoldable pub pole4 : ℕ → ℕ → ℤ → ℤ → ℤ → ℤ
-pole4 cr k₂ x x' y = if flag_of LP4 cr then low_pass k₂ x y else high_pass k₂ x x' y
+pole4 cr k₂ x x' y = if flag_of lp4_bit cr then low_pass k₂ x y else high_pass k₂ x x' y
 
 -- The four new outputs, of the sample x and the last outputs p. Each pole's input is the new output of the pole before it; the last
 -- input of poles 3 and 4 is the last output of the pole before.

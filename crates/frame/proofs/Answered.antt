@@ -13,20 +13,20 @@ use Rattle.answer.specs.Answer.{Answer, Done, is_done, answer_of, value_or}
 use Rattle.answer.specs.declared.Refusal.{Refusal}
 use Rattle.answer.specs.declared.Refusal.TheVariants.{RecordLength, RecordInvalid, TooFewVoices, MemoryLength, OutputLength}
 use Rattle.answer.proofs.Refusals.{none_holds, refused_early}
-use Rattle.machine.specs.Words.{ACTV, OUTPUT_VALUES, valid}
+use Rattle.machine.specs.Words.{actv_word, output_values, valid}
 use Rattle.machine.specs.Check.{wrong_length, not_valid, checked}
 use Rattle.machine.proofs.Valid.{Sound}
 use Rattle.machine.proofs.Answers.{sound_tests, tests_sound, not_refused}
-use Rattle.sample.specs.Sample.{MOST_MEMORY_WORDS}
+use Rattle.sample.specs.Sample.{most_memory_words}
 use Rattle.frame.specs.Missing.{missed_in}
-use Rattle.frame.specs.Frame.{LEAST_ACTV, played, closed, heard, too_few, frame_answer, frame_record, frame_output, frame_missing, Frames}
+use Rattle.frame.specs.Frame.{least_actv, played, closed, heard, too_few, frame_answer, frame_record, frame_output, frame_missing, Frames}
 
 -- all that a frame asks of what it is lent
 pub record Ready (m memory : List ℕ) (out : List ℤ) : Type 0 where
   pub machine : Sound m
   pub voices : too_few m ≡ false
-  pub samples : length memory ≤ MOST_MEMORY_WORDS
-  pub values : length out ≡ OUTPUT_VALUES
+  pub samples : length memory ≤ most_memory_words
+  pub values : length out ≡ output_values
 
 module _ (m memory : List ℕ) (out : List ℤ) where
   pub refused_voices : Sound m → too_few m ≡ true → frame_answer m memory out ≡ Err TooFewVoices
@@ -34,39 +34,39 @@ module _ (m memory : List ℕ) (out : List ℤ) where
   refused_voices s k = let t = sound_tests m s in rw (t.0, t.1, k)
 
   module _ (s : Sound m) (v : too_few m ≡ false) where
-    pub refused_memory : MOST_MEMORY_WORDS < length memory → frame_answer m memory out ≡ Err MemoryLength
+    pub refused_memory : most_memory_words < length memory → frame_answer m memory out ≡ Err MemoryLength
     unfolding frame_answer
-    refused_memory k = let t = sound_tests m s in rw (t.0, t.1, v, lt-ltb MOST_MEMORY_WORDS (length memory) k)
+    refused_memory k = let t = sound_tests m s in rw (t.0, t.1, v, lt-ltb most_memory_words (length memory) k)
 
-    pub refused_output : length memory ≤ MOST_MEMORY_WORDS → (length out ≡ OUTPUT_VALUES → ⊥) → frame_answer m memory out ≡ Err OutputLength
+    pub refused_output : length memory ≤ most_memory_words → (length out ≡ output_values → ⊥) → frame_answer m memory out ≡ Err OutputLength
     unfolding frame_answer
     refused_output k l =
         let t = sound_tests m s in
-        rw (t.0, t.1, v, le-ltb MOST_MEMORY_WORDS (length memory) k, ne_eqb (length out) OUTPUT_VALUES l)
+        rw (t.0, t.1, v, le-ltb most_memory_words (length memory) k, ne_eqb (length out) output_values l)
 
   pub not_refused_frame : Ready m memory out → frame_answer m memory out ≡ Done
   unfolding frame_answer
   not_refused_frame r =
       let t = sound_tests m r.machine in
-      rw (t.0, t.1, r.voices, le-ltb MOST_MEMORY_WORDS (length memory) r.samples, eq-eqb (length out) OUTPUT_VALUES r.values)
+      rw (t.0, t.1, r.voices, le-ltb most_memory_words (length memory) r.samples, eq-eqb (length out) output_values r.values)
 
   -- the same by the tests that the code makes of a record that is not refused
-  pub told_voices : checked m ≡ Done → get_or m ACTV 0 < LEAST_ACTV → frame_answer m memory out ≡ Err TooFewVoices
-  told_voices d k = refused_voices (not_refused m d) (lt-ltb (get_or m ACTV 0) LEAST_ACTV k)
+  pub told_voices : checked m ≡ Done → get_or m actv_word 0 < least_actv → frame_answer m memory out ≡ Err TooFewVoices
+  told_voices d k = refused_voices (not_refused m d) (lt-ltb (get_or m actv_word 0) least_actv k)
 
-  module _ (d : checked m ≡ Done) (v : LEAST_ACTV ≤ get_or m ACTV 0) where
-    pub told_memory : MOST_MEMORY_WORDS < length memory → frame_answer m memory out ≡ Err MemoryLength
-    told_memory k = refused_memory (not_refused m d) (le-ltb (get_or m ACTV 0) LEAST_ACTV v) k
+  module _ (d : checked m ≡ Done) (v : least_actv ≤ get_or m actv_word 0) where
+    pub told_memory : most_memory_words < length memory → frame_answer m memory out ≡ Err MemoryLength
+    told_memory k = refused_memory (not_refused m d) (le-ltb (get_or m actv_word 0) least_actv v) k
 
-    pub told_output : length memory ≤ MOST_MEMORY_WORDS → (length out ≡ OUTPUT_VALUES → ⊥) → frame_answer m memory out ≡ Err OutputLength
-    told_output k l = refused_output (not_refused m d) (le-ltb (get_or m ACTV 0) LEAST_ACTV v) k l
+    pub told_output : length memory ≤ most_memory_words → (length out ≡ output_values → ⊥) → frame_answer m memory out ≡ Err OutputLength
+    told_output k l = refused_output (not_refused m d) (le-ltb (get_or m actv_word 0) least_actv v) k l
 
-    pub told_ready : length memory ≤ MOST_MEMORY_WORDS → length out ≡ OUTPUT_VALUES → frame_answer m memory out ≡ Done
-    told_ready k l = not_refused_frame (record { machine = not_refused m d; voices = le-ltb (get_or m ACTV 0) LEAST_ACTV v; samples = k; values = l })
+    pub told_ready : length memory ≤ most_memory_words → length out ≡ output_values → frame_answer m memory out ≡ Done
+    told_ready k l = not_refused_frame (record { machine = not_refused m d; voices = le-ltb (get_or m actv_word 0) least_actv v; samples = k; values = l })
 
   -- the tests of the voices, the memory and the output, which come after those of the record
   abbrev later : List (Bool × Refusal)
-  later = (too_few m, TooFewVoices) ∷ (ltb MOST_MEMORY_WORDS (length memory), MemoryLength) ∷ (not (eqb (length out) OUTPUT_VALUES), OutputLength) ∷ []
+  later = (too_few m, TooFewVoices) ∷ (ltb most_memory_words (length memory), MemoryLength) ∷ (not (eqb (length out) output_values), OutputLength) ∷ []
 
   pub refused_record : is_done (checked m) ≡ false → frame_answer m memory out ≡ checked m
   unfolding frame_answer checked
@@ -83,8 +83,8 @@ module _ (m memory : List ℕ) (out : List ℤ) where
       record {
         machine = tests_sound m n.0;
         voices = n.1.0;
-        samples = ltb-false MOST_MEMORY_WORDS (length memory) n.1.1.0;
-        values = eqb-true (length out) OUTPUT_VALUES (not-false (eqb (length out) OUTPUT_VALUES) n.1.1.1.0);
+        samples = ltb-false most_memory_words (length memory) n.1.1.0;
+        values = eqb-true (length out) output_values (not-false (eqb (length out) output_values) n.1.1.1.0);
       }
 
   pub frames_refused : (a : Answer) → a ≡ frame_answer m memory out → is_done a ≡ false → Frames m memory out a 0 m out

@@ -14,10 +14,10 @@ use lib.IntN.{ℤ}
 use lib.ListN.{length, get_or}
 use Rattle.numbers.specs.Numbers.{word}
 use Rattle.numbers.proofs.Tests.{either, all, all_at}
-use Rattle.control.specs.Control.{flag_of, IRQ}
+use Rattle.control.specs.Control.{flag_of, irq_bit}
 use Rattle.channel.specs.Channel.{mixed}
 use Rattle.channel.proofs.Laws.{mixed_is}
-use Rattle.machine.specs.Words.{voice_bits, shared_bits, bits_of, cut, is_vector, ACTV, IRQV, SLOW, SUMS}
+use Rattle.machine.specs.Words.{voice_bits, shared_bits, bits_of, cut, is_vector, actv_word, irqv_word, slow_word, sums_word}
 use Rattle.machine.specs.Voices.{voice_at, put_voice}
 use Rattle.machine.proofs.Valid.{Sound, InRange, in_range, range_put, range_voice, sound_masked, sound_set, word-le}
 use Rattle.voice.specs.Turn.{turn_of}
@@ -158,51 +158,51 @@ unfolding is_vector
 is_vector_lem v h = rw (lt-ltb v 32 h)
 
 sum-bits : ℕ → Bool
-sum-bits c = eqb (bits_of (SUMS + c)) 8388607
+sum-bits c = eqb (bits_of (sums_word + c)) 8388607
 
 all_sum_bits : T (all sum-bits 12)
 unfolding sum-bits bits_of shared_bits
 all_sum_bits = tt
 
-bits-sum : (c : ℕ) → c < 12 → bits_of (SUMS + c) ≡ 8388607
+bits-sum : (c : ℕ) → c < 12 → bits_of (sums_word + c) ≡ 8388607
 unfolding sum-bits
-bits-sum c h = eqb→eq (bits_of (SUMS + c)) 8388607 (all_at sum-bits 12 all_sum_bits c h)
+bits-sum c h = eqb→eq (bits_of (sums_word + c)) 8388607 (all_at sum-bits 12 all_sum_bits c h)
 
 -- a sum has 23 bits
-pub sum_small : (m : List ℕ) → InRange m → (c : ℕ) → c < 12 → get_or m (SUMS + c) 0 < 8388608
-sum_small m s c h = omega (arith, subst (λ (b : ℕ). get_or m (SUMS + c) 0 ≤ b) (bits-sum c h) (word-le m s (SUMS + c) (omega arith)))
+pub sum_small : (m : List ℕ) → InRange m → (c : ℕ) → c < 12 → get_or m (sums_word + c) 0 < 8388608
+sum_small m s c h = omega (arith, subst (λ (b : ℕ). get_or m (sums_word + c) 0 ≤ b) (bits-sum c h) (word-le m s (sums_word + c) (omega arith)))
 
 mixed_small : (a b : ℕ) → mixed a b < 8388608
 mixed_small a b = rw (mixed_is a b) (mod-lt (a + b) (lit< tt))
 
-pub sound_added_to : {m : List ℕ} (c : ℕ) (z : ℤ) → Sound m → c < 12 → Sound (added_to m (SUMS + c) z)
+pub sound_added_to : {m : List ℕ} (c : ℕ) (z : ℤ) → Sound m → c < 12 → Sound (added_to m (sums_word + c) z)
 unfolding added_to cut
 sound_added_to {m} c z s h =
-    sound_set (SUMS + c) _ s (omega arith) (omega arith) (rw (bits-sum c h) (small_cut 23 _ (mixed_small (get_or m (SUMS + c) 0) (word 23 z)))) (λ e. absurd (let y : ⊥ = omega arith in y))
+    sound_set (sums_word + c) _ s (omega arith) (omega arith) (rw (bits-sum c h) (small_cut 23 _ (mixed_small (get_or m (sums_word + c) 0) (word 23 z)))) (λ e. absurd (let y : ⊥ = omega arith in y))
 
 pub sound_added : {m : List ℕ} (c : ℕ) (left right : ℤ) → Sound m → Sound (added m c left right)
 unfolding added
 sound_added {m} c left right s = either Sound (ltb c 6) _ _
     (λ t.
     let h = ltb-true c 6 t in
-    let e : SUMS + 2 * c + 1 ≡ SUMS + (2 * c + 1) = omega arith in
+    let e : sums_word + 2 * c + 1 ≡ sums_word + (2 * c + 1) = omega arith in
     rw e (sound_added_to (2 * c + 1) right (sound_added_to (2 * c) left s (omega arith)) (omega arith)))
     (λ t. s)
 
 pub sound_signalled : {m : List ℕ} (v CR : ℕ) → Sound m → v < 32 → Sound (signalled m v CR)
 unfolding signalled cut bits_of shared_bits
-sound_signalled {m} v CR s h = either Sound (flag_of IRQ CR && eqb (get_or m IRQV 0) 128) _ _
-    (λ t. sound_set IRQV v s (lit≤ tt) (lit< tt) (small_cut 8 v (omega arith)) (λ e. is_vector_lem v h))
+sound_signalled {m} v CR s h = either Sound (flag_of irq_bit CR && eqb (get_or m irqv_word 0) 128) _ _
+    (λ t. sound_set irqv_word v s (lit≤ tt) (lit< tt) (small_cut 8 v (omega arith)) (λ e. is_vector_lem v h))
     (λ t. s)
 
 -- ---- the turn, and the turns
 
 -- the voice's new words put into the record leave it in range
-pub turn_range : (memory : List ℕ) (v : ℕ) {m : List ℕ} → Sound m → v < 32 → InRange (put_voice m v (words_of (turn_of memory (get_or m SLOW 0) (voice_of (voice_at m v))).voice))
+pub turn_range : (memory : List ℕ) (v : ℕ) {m : List ℕ} → Sound m → v < 32 → InRange (put_voice m v (words_of (turn_of memory (get_or m slow_word 0) (voice_of (voice_at m v))).voice))
 turn_range memory v {m} s h =
-    let t = turn_of memory (get_or m SLOW 0) (voice_of (voice_at m v)) in
+    let t = turn_of memory (get_or m slow_word 0) (voice_of (voice_at m v)) in
     range_put v (words_of t.voice) (in_range s) h (words_length t.voice)
-    (turn_cut memory (get_or m SLOW 0) (voice_at m v) (λ j k. range_voice m (in_range s) v j h k))
+    (turn_cut memory (get_or m slow_word 0) (voice_at m v) (λ j k. range_voice m (in_range s) v j h k))
 
 pub sound_turn : (memory : List ℕ) (v : ℕ) {m : List ℕ} → Sound m → v < 32 → Sound (turn_at memory v m)
 unfolding turn_at
@@ -215,10 +215,10 @@ sound_turns memory (suc n) {m} s h = sound_turn memory n (sound_turns memory n s
 
 -- ---- a whole frame's turns
 
-pub active_le : (m : List ℕ) → Sound m → get_or m ACTV 0 ≤ 31
+pub active_le : (m : List ℕ) → Sound m → get_or m actv_word 0 ≤ 31
 unfolding bits_of shared_bits
-active_le m s = word-le m (in_range s) ACTV (lit< tt)
+active_le m s = word-le m (in_range s) actv_word (lit< tt)
 
 pub sound_played : (memory : List ℕ) {m : List ℕ} → Sound m → Sound (played memory m)
 unfolding played
-sound_played memory {m} s = sound_turns memory (get_or m ACTV 0 + 1) s (omega (arith, active_le m s))
+sound_played memory {m} s = sound_turns memory (get_or m actv_word 0 + 1) s (omega (arith, active_le m s))

@@ -15,10 +15,10 @@ use Rattle.numbers.proofs.Sum.{sum_ext, sum_most, sum_zeros, none_summed}
 use Rattle.numbers.proofs.Tests.{either}
 use Rattle.answer.specs.Answer.{Done, is_done}
 use Rattle.answer.proofs.Refusals.{is_done_lem}
-use Rattle.machine.specs.Words.{ACTV}
+use Rattle.machine.specs.Words.{actv_word}
 use Rattle.machine.specs.Voices.{voice_at}
 use Rattle.machine.proofs.Valid.{Sound, in_range, range_voice}
-use Rattle.sample.specs.Sample.{MOST_MEMORY_WORDS}
+use Rattle.sample.specs.Sample.{most_memory_words}
 use Rattle.sample.proofs.Laws.{within_four_banks}
 use Rattle.voice.specs.Voice.{voice_of}
 use Rattle.voice.specs.Missed.{missed_by}
@@ -36,10 +36,10 @@ unfoldable pub missed_in_turns : List ℕ → ℕ → List ℕ → ℕ
 missed_in_turns memory k m = sum k (λ v. missed_by memory (voice_of (voice_at (turns memory v m) v)))
 
 -- a voice comes to its turn as it was when the frame began
-pub missed_in-turns : (memory : List ℕ) {m : List ℕ} → Sound m → missed_in_turns memory (get_or m ACTV 0 + 1) m ≡ missed_in memory m
+pub missed_in-turns : (memory : List ℕ) {m : List ℕ} → Sound m → missed_in_turns memory (get_or m actv_word 0 + 1) m ≡ missed_in memory m
 unfolding missed_in_turns missed_in
 missed_in-turns memory {m} s =
-    sum_ext (get_or m ACTV 0 + 1) (λ v. missed_by memory (voice_of (voice_at (turns memory v m) v))) (λ v. missed_by memory (voice_of (voice_at m v)))
+    sum_ext (get_or m actv_word 0 + 1) (λ v. missed_by memory (voice_of (voice_at (turns memory v m) v))) (λ v. missed_by memory (voice_of (voice_at m v)))
     (λ v l.
     let h : v < 32 = omega (arith, active_le m s) in
     ap (λ (w : List ℕ). missed_by memory (voice_of w)) ((turned memory v (omega arith) s).ahead v h (le_refl v)))
@@ -50,19 +50,19 @@ missed_in-turns_most memory k m = sum_most k 2 (λ v. missed_by memory (voice_of
 
 -- ---- how many
 
-pub missed_in_most : (memory m : List ℕ) → missed_in memory m ≤ (get_or m ACTV 0 + 1) * 2
+pub missed_in_most : (memory m : List ℕ) → missed_in memory m ≤ (get_or m actv_word 0 + 1) * 2
 unfolding missed_in
-missed_in_most memory m = sum_most (get_or m ACTV 0 + 1) 2 (λ v. missed_by memory (voice_of (voice_at m v))) (λ v l. missed_most memory _)
+missed_in_most memory m = sum_most (get_or m actv_word 0 + 1) 2 (λ v. missed_by memory (voice_of (voice_at m v))) (λ v l. missed_most memory _)
 
 pub missed_in_none : (memory m : List ℕ) → missed_in memory m ≡ 0 → AllThere memory m
 unfolding missed_in
 missed_in_none memory m e v h t =
-    missed_none memory (voice_of (voice_at m v)) (none_summed (get_or m ACTV 0 + 1) (λ u. missed_by memory (voice_of (voice_at m u))) e v (omega arith)) t
+    missed_none memory (voice_of (voice_at m v)) (none_summed (get_or m actv_word 0 + 1) (λ u. missed_by memory (voice_of (voice_at m u))) e v (omega arith)) t
 
 pub missed_in_all : (memory m : List ℕ) → AllThere memory m → missed_in memory m ≡ 0
 unfolding missed_in
 missed_in_all memory m h =
-    sum_zeros (get_or m ACTV 0 + 1) (λ v. missed_by memory (voice_of (voice_at m v))) (λ v l. missed_both memory (voice_of (voice_at m v)) (h v (omega arith)))
+    sum_zeros (get_or m actv_word 0 + 1) (λ v. missed_by memory (voice_of (voice_at m v))) (λ v l. missed_both memory (voice_of (voice_at m v)) (h v (omega arith)))
 
 -- ---- the call
 
@@ -86,7 +86,7 @@ module _ (m memory : List ℕ) (out : List ℤ) where
   frame_missing_all h = either_way (λ n. n ≡ 0) refl (λ _. missed_in_all memory m h)
 
   -- with memory of four banks none is missing; longer memory is refused
-  pub frame_missing_four_banks : MOST_MEMORY_WORDS ≤ length memory → frame_missing m memory out ≡ 0
+  pub frame_missing_four_banks : most_memory_words ≤ length memory → frame_missing m memory out ≡ 0
   frame_missing_four_banks l = either_way (λ n. n ≡ 0) refl (λ s. missed_in_all memory m (λ v h t.
       let k : v < 32 = omega (arith, active_le m s) in
       let w = voice_of (voice_at m v) in

@@ -14,7 +14,7 @@ use lib.Dec.{lit<, lit≤}
 use lib.ListN.{get_or}
 use Rattle.numbers.proofs.Sum.{sum_ext, sum_renumbered, maps_outside}
 use Rattle.numbers.proofs.Tests.{cases}
-use Rattle.machine.specs.Words.{ACTV, SLOW, SUMS}
+use Rattle.machine.specs.Words.{actv_word, slow_word, sums_word}
 use Rattle.machine.specs.Voices.{voice_at}
 use Rattle.machine.proofs.Valid.{Sound}
 use Rattle.voice.specs.Voice.{voice_of}
@@ -33,10 +33,10 @@ pub record KeptByTurns (P : List ℕ → List ℕ → Type 0) : Type 0 where
 
 module _ {P : List ℕ → List ℕ → Type 0} (K : KeptByTurns P) (memory : List ℕ) {s : ℕ → ℕ} {m n : List ℕ} (sm : Sound m) (sn : Sound n)
     (into : (v : ℕ) → v < 32 → s v < 32) (one_to_one : (v u : ℕ) → v < 32 → u < 32 → s v ≡ s u → v ≡ u)
-    (stays_active : (v : ℕ) → v ≤ get_or m ACTV 0 → s v ≤ get_or m ACTV 0) (M : Paired P s m n) where
+    (stays_active : (v : ℕ) → v ≤ get_or m actv_word 0 → s v ≤ get_or m actv_word 0) (M : Paired P s m n) where
   -- how many voices have a turn
   count : ℕ
-  count = suc (get_or m ACTV 0)
+  count = suc (get_or m actv_word 0)
 
   count_le : count ≤ 32
   unfolding count
@@ -66,11 +66,11 @@ module _ {P : List ℕ → List ℕ → Type 0} (K : KeptByTurns P) (memory : Li
   same_shares : (i : ℕ) → shares memory m count i ≡ shares memory n count i
   unfolding shares
   same_shares i =
-      sum_ext count (λ v. share memory (get_or m SLOW 0) (voice_at m v) i) (λ v. share memory (get_or n SLOW 0) (voice_at n (s v)) i)
-      (λ v l. rw M.slow (K.adds memory (get_or n SLOW 0) (M.voices v (omega (arith, count_le))) i))
-      ∙ sum_renumbered count s into_active active_once (λ v. share memory (get_or n SLOW 0) (voice_at n v) i)
+      sum_ext count (λ v. share memory (get_or m slow_word 0) (voice_at m v) i) (λ v. share memory (get_or n slow_word 0) (voice_at n (s v)) i)
+      (λ v l. rw M.slow (K.adds memory (get_or n slow_word 0) (M.voices v (omega (arith, count_le))) i))
+      ∙ sum_renumbered count s into_active active_once (λ v. share memory (get_or n slow_word 0) (voice_at n v) i)
 
-  same_sums : (i : ℕ) → i < 12 → get_or (played memory m) (SUMS + i) 0 ≡ get_or (played memory n) (SUMS + i) 0
+  same_sums : (i : ℕ) → i < 12 → get_or (played memory m) (sums_word + i) 0 ≡ get_or (played memory n) (sums_word + i) 0
   same_sums i h = tm.sums i h ∙ rw (M.sums i h, same_shares i) (sym (tn.sums i h))
 
   pub heard_paired : heard (played memory m) ≡ heard (played memory n)
@@ -88,15 +88,15 @@ module _ {P : List ℕ → List ℕ → Type 0} (K : KeptByTurns P) (memory : Li
   turned_voices v h = cases v count (P (voice_at (played memory m) v) (voice_at (played memory n) (s v)))
       (λ l.
       rw (tm.past v h l, tn.past (s v) (into v h) (into_active v l), M.slow)
-      (K.turns memory (get_or n SLOW 0) (M.voices v h)))
+      (K.turns memory (get_or n slow_word 0) (M.voices v h)))
       (λ l. rw (tm.ahead v h l, tn.ahead (s v) (into v h) (stays_inactive v h l)) (M.voices v h))
 
   pub closed_paired : Paired P s (closed (played memory m)) (closed (played memory n))
   closed_paired = record {
     voices = λ v h. rw (closed_voice (played memory m) tm.sound v h, closed_voice (played memory n) tn.sound (s v) (into v h)) (turned_voices v h);
     active =
-        closed_stays tm ACTV (lit≤ tt) (lit< tt) (λ e. omega arith) (λ e. omega arith) ∙ M.active
-        ∙ sym (closed_stays tn ACTV (lit≤ tt) (lit< tt) (λ e. omega arith) (λ e. omega arith));
+        closed_stays tm actv_word (lit≤ tt) (lit< tt) (λ e. omega arith) (λ e. omega arith) ∙ M.active
+        ∙ sym (closed_stays tn actv_word (lit≤ tt) (lit< tt) (λ e. omega arith) (λ e. omega arith));
     slow = closed_slow (played memory m) tm.sound ∙ ap (λ (x : ℕ). (x + 1) % 8) (slow_stays tm ∙ M.slow ∙ sym (slow_stays tn)) ∙ sym (closed_slow (played memory n) tn.sound);
     sums = λ i h. closed_sum (played memory m) tm.sound i h ∙ sym (closed_sum (played memory n) tn.sound i h);
   }

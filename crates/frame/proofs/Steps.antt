@@ -10,16 +10,16 @@ use lib.ListN.{length, get_or, set, length-set}
 use lib.Seq.{get_or-set_other}
 use Rattle.numbers.specs.Numbers.{word}
 use Rattle.numbers.proofs.Tests.{split}
-use Rattle.control.specs.Control.{flag_of, with_bit, IRQ}
+use Rattle.control.specs.Control.{flag_of, with_bit, irq_bit}
 use Rattle.channel.specs.Channel.{mixed}
-use Rattle.machine.specs.Words.{IRQV, SUMS, WAIT_MASK, waiting_voices, with_mask}
+use Rattle.machine.specs.Words.{irqv_word, sums_word, wait_mask_word, waiting_voices, with_mask}
 use Rattle.machine.proofs.Mask.{masked_same}
 use Rattle.frame.specs.Frame.{added_to, added, signalled}
 
 -- ---- a channel
 
 module _ (m : List ℕ) (c : ℕ) (left right : ℤ) where
-  pub added_in : c < 6 → added m c left right ≡ added_to (added_to m (SUMS + 2 * c) left) (SUMS + 2 * c + 1) right
+  pub added_in : c < 6 → added m c left right ≡ added_to (added_to m (sums_word + 2 * c) left) (sums_word + 2 * c + 1) right
   unfolding added
   added_in h = rw (lt-ltb c 6 h)
 
@@ -38,19 +38,19 @@ added_to_other m i j z h = get_or-set_other m i j (mixed (get_or m i 0) (word 23
 -- ---- the interrupt step
 
 module _ (m : List ℕ) (v CR : ℕ) where
-  pub signal_enters : flag_of IRQ CR ≡ true → get_or m IRQV 0 ≡ 128 → signalled m v CR ≡ set m IRQV v
+  pub signal_enters : flag_of irq_bit CR ≡ true → get_or m irqv_word 0 ≡ 128 → signalled m v CR ≡ set m irqv_word v
   unfolding signalled
-  signal_enters f h = rw (f, eq-eqb (get_or m IRQV 0) 128 h)
+  signal_enters f h = rw (f, eq-eqb (get_or m irqv_word 0) 128 h)
 
-  pub signal_occupied : (get_or m IRQV 0 ≡ 128 → ⊥) → signalled m v CR ≡ m
+  pub signal_occupied : (get_or m irqv_word 0 ≡ 128 → ⊥) → signalled m v CR ≡ m
   unfolding signalled
-  signal_occupied h = split (signalled m v CR ≡ m) (flag_of IRQ CR) (λ t. rw (t, ne_eqb (get_or m IRQV 0) 128 h)) (λ t. rw t)
+  signal_occupied h = split (signalled m v CR ≡ m) (flag_of irq_bit CR) (λ t. rw (t, ne_eqb (get_or m irqv_word 0) 128 h)) (λ t. rw t)
 
-  pub signal_none : flag_of IRQ CR ≡ false → signalled m v CR ≡ m
+  pub signal_none : flag_of irq_bit CR ≡ false → signalled m v CR ≡ m
   unfolding signalled
   signal_none f = rw f
 
 -- the mask was true already of a voice that does not wait
-pub signal_quiet : (m : List ℕ) (v CR : ℕ) → flag_of IRQ CR ≡ false
-    → waiting_voices m ≡ cond (flag_of IRQ CR) (with_bit v 1 (get_or m WAIT_MASK 0)) (get_or m WAIT_MASK 0) → signalled (with_mask m) v CR ≡ m
+pub signal_quiet : (m : List ℕ) (v CR : ℕ) → flag_of irq_bit CR ≡ false
+    → waiting_voices m ≡ cond (flag_of irq_bit CR) (with_bit v 1 (get_or m wait_mask_word 0)) (get_or m wait_mask_word 0) → signalled (with_mask m) v CR ≡ m
 signal_quiet m v CR f h = signal_none (with_mask m) v CR f ∙ masked_same m (sym (rw f at h))

@@ -15,11 +15,11 @@ use lib.ListN.{length, get_or, set, take, drop}
 use lib.Seq.{set-get_or}
 use Rattle.numbers.specs.Numbers.{floor_mod, word}
 use Rattle.numbers.proofs.Tests.{either, split, neither}
-use Rattle.control.specs.Control.{bit_of, flag_of, with_bit, channel_of, runs, IRQ}
+use Rattle.control.specs.Control.{bit_of, flag_of, with_bit, channel_of, runs, irq_bit}
 use Rattle.control.proofs.Bits.{put_again, flag_bit_lem, no_flag_bit}
 use Rattle.channel.specs.Channel.{mixed}
 use Rattle.channel.proofs.Laws.{mixed_is}
-use Rattle.machine.specs.Words.{CR, SLOW, SUMS, WAIT_MASK, voice_word, waiting_voices, with_mask}
+use Rattle.machine.specs.Words.{cr_word, slow_word, sums_word, wait_mask_word, voice_word, waiting_voices, with_mask}
 use Rattle.machine.specs.Voices.{voice_at, put_voice}
 use Rattle.machine.proofs.Parts.{voice_word_lem, put_in, put_out_lem}
 use Rattle.machine.proofs.Mask.{bit_waits, one_marked, masked_word, masked_after}
@@ -37,49 +37,49 @@ use Rattle.frame.proofs.Leaves.{added_word}
 
 -- ---- nothing added
 
-added_to_nothing : (m : List ℕ) (i : ℕ) → InRange m → i < 12 → added_to m (SUMS + i) (pos 0) ≡ m
+added_to_nothing : (m : List ℕ) (i : ℕ) → InRange m → i < 12 → added_to m (sums_word + i) (pos 0) ≡ m
 unfolding added_to word floor_mod
 added_to_nothing m i s h =
-    let e : (get_or m (SUMS + i) 0 + 0) % 8388608 ≡ get_or m (SUMS + i) 0 = omega (arith, sum_small m s i h) in
-    ap (set m (SUMS + i)) (mixed_is (get_or m (SUMS + i) 0) 0 ∙ e) ∙ set-get_or m (SUMS + i) 0
+    let e : (get_or m (sums_word + i) 0 + 0) % 8388608 ≡ get_or m (sums_word + i) 0 = omega (arith, sum_small m s i h) in
+    ap (set m (sums_word + i)) (mixed_is (get_or m (sums_word + i) 0) 0 ∙ e) ∙ set-get_or m (sums_word + i) 0
 
 pub added_nothing : (m : List ℕ) (c : ℕ) → InRange m → added m c (pos 0) (pos 0) ≡ m
 unfolding added
 added_nothing m c s = either (λ r. r ≡ m) (ltb c 6) _ _
     (λ t.
     let h = ltb-true c 6 t in
-    let e : SUMS + 2 * c + 1 ≡ SUMS + (2 * c + 1) = omega arith in
+    let e : sums_word + 2 * c + 1 ≡ sums_word + (2 * c + 1) = omega arith in
     rw (added_to_nothing m (2 * c) s (omega arith), e) (added_to_nothing m (2 * c + 1) s (omega arith)))
     (λ t. refl)
 
 -- ---- the mask
 
-masked_added_to : (m : List ℕ) (i : ℕ) (z : ℤ) → i < 12 → with_mask (added_to m (SUMS + i) z) ≡ added_to (with_mask m) (SUMS + i) z
+masked_added_to : (m : List ℕ) (i : ℕ) (z : ℤ) → i < 12 → with_mask (added_to m (sums_word + i) z) ≡ added_to (with_mask m) (sums_word + i) z
 unfolding added_to
 masked_added_to m i z h =
-    masked_after m (SUMS + i) (mixed (get_or m (SUMS + i) 0) (word 23 z)) (omega arith) (λ e. omega arith)
-    ∙ ap (λ (x : ℕ). set (with_mask m) (SUMS + i) (mixed x (word 23 z))) (sym (masked_word m (SUMS + i) (λ e. omega arith)))
+    masked_after m (sums_word + i) (mixed (get_or m (sums_word + i) 0) (word 23 z)) (omega arith) (λ e. omega arith)
+    ∙ ap (λ (x : ℕ). set (with_mask m) (sums_word + i) (mixed x (word 23 z))) (sym (masked_word m (sums_word + i) (λ e. omega arith)))
 
 masked_added : (m : List ℕ) (c : ℕ) (left right : ℤ) → with_mask (added m c left right) ≡ added (with_mask m) c left right
 unfolding added
 masked_added m c left right = split _ (ltb c 6)
     (λ t.
     let h = ltb-true c 6 t in
-    let e : SUMS + 2 * c + 1 ≡ SUMS + (2 * c + 1) = omega arith in
+    let e : sums_word + 2 * c + 1 ≡ sums_word + (2 * c + 1) = omega arith in
     rw (t, e)
-    (masked_added_to (added_to m (SUMS + 2 * c) left) (2 * c + 1) right (omega arith)
-    ∙ ap (λ (n : List ℕ). added_to n (SUMS + (2 * c + 1)) right) (masked_added_to m (2 * c) left (omega arith))))
+    (masked_added_to (added_to m (sums_word + 2 * c) left) (2 * c + 1) right (omega arith)
+    ∙ ap (λ (n : List ℕ). added_to n (sums_word + (2 * c + 1)) right) (masked_added_to m (2 * c) left (omega arith))))
     (λ t. rw t)
 
 -- ---- the part put back
 
-module _ (memory m : List ℕ) (v k : ℕ) (after : List ℕ) (a : Addend) (e : k ≡ 20) (p : TakesTurn memory (get_or m SLOW 0) (take k (drop (20 * v) m)) after a)
+module _ (memory m : List ℕ) (v k : ℕ) (after : List ℕ) (a : Addend) (e : k ≡ 20) (p : TakesTurn memory (get_or m slow_word 0) (take k (drop (20 * v) m)) after a)
     (s : Sound m) (h : v < 32) where
   abbrev back : List ℕ
   back = take (20 * v) m ++ (after ++ drop k (drop (20 * v) m))
 
   abbrev result : Turn
-  result = turn_of memory (get_or m SLOW 0) (voice_of (voice_at m v))
+  result = turn_of memory (get_or m slow_word 0) (voice_of (voice_at m v))
 
   back_is : back ≡ put_voice m v (words_of result.voice)
   unfolding voice_at put_voice
@@ -92,65 +92,65 @@ module _ (memory m : List ℕ) (v k : ℕ) (after : List ℕ) (a : Addend) (e : 
   abbrev part : ℕ → List ℕ
   part n = take n (drop (20 * v) m)
 
-  channel_is : a.channel ≡ cond (runs (get_or (voice_at m v) CR 0)) (channel_of (get_or (voice_at m v) CR 0)) 7
+  channel_is : a.channel ≡ cond (runs (get_or (voice_at m v) cr_word 0)) (channel_of (get_or (voice_at m v) cr_word 0)) 7
   unfolding voice_at
-  channel_is = p.channel ∙ ap (λ (n : ℕ). cond (runs (get_or (part n) CR 0)) (channel_of (get_or (part n) CR 0)) 7) e
+  channel_is = p.channel ∙ ap (λ (n : ℕ). cond (runs (get_or (part n) cr_word 0)) (channel_of (get_or (part n) cr_word 0)) 7) e
 
   left_is : a.left ≡ result.left
   unfolding voice_at
-  left_is = p.left ∙ ap (λ (n : ℕ). (turn_of memory (get_or m SLOW 0) (voice_of (part n))).left) e
+  left_is = p.left ∙ ap (λ (n : ℕ). (turn_of memory (get_or m slow_word 0) (voice_of (part n))).left) e
 
   right_is : a.right ≡ result.right
   unfolding voice_at
-  right_is = p.right ∙ ap (λ (n : ℕ). (turn_of memory (get_or m SLOW 0) (voice_of (part n))).right) e
+  right_is = p.right ∙ ap (λ (n : ℕ). (turn_of memory (get_or m slow_word 0) (voice_of (part n))).right) e
 
   -- a stopped voice says that it adds nowhere, and adds nothing
-  back_added : added back a.channel a.left a.right ≡ added back (channel_of (get_or (voice_at m v) CR 0)) result.left result.right
+  back_added : added back a.channel a.left a.right ≡ added back (channel_of (get_or (voice_at m v) cr_word 0)) result.left result.right
   unfolding stopped_turn
-  back_added = rw (channel_is, left_is, right_is) (split _ (runs (get_or (voice_at m v) CR 0))
+  back_added = rw (channel_is, left_is, right_is) (split _ (runs (get_or (voice_at m v) cr_word 0))
       (λ t. rw t)
       (λ t.
-      rw (t, turn_stands memory (get_or m SLOW 0) (voice_of (voice_at m v)) t)
-      (added_none back 7 (pos 0) (pos 0) (lit≤ tt) ∙ sym (added_nothing back (channel_of (get_or (voice_at m v) CR 0)) back_range))))
+      rw (t, turn_stands memory (get_or m slow_word 0) (voice_of (voice_at m v)) t)
+      (added_none back 7 (pos 0) (pos 0) (lit≤ tt) ∙ sym (added_nothing back (channel_of (get_or (voice_at m v) cr_word 0)) back_range))))
 
   fits : 20 * v + 20 ≤ length m
   fits = omega (arith, s.size)
 
-  back_control : get_or (added back a.channel a.left a.right) (voice_word v CR) 0 ≡ result.voice.cr
+  back_control : get_or (added back a.channel a.left a.right) (voice_word v cr_word) 0 ≡ result.voice.cr
   unfolding words_of
   back_control =
-      added_word back a.channel a.left a.right (voice_word v CR) (λ c b q. omega arith) ∙ ap (λ (l : List ℕ). get_or l (voice_word v CR) 0) back_is
-      ∙ put_in m v (words_of result.voice) (words_length result.voice) fits CR (lit< tt)
+      added_word back a.channel a.left a.right (voice_word v cr_word) (λ c b q. omega arith) ∙ ap (λ (l : List ℕ). get_or l (voice_word v cr_word) 0) back_is
+      ∙ put_in m v (words_of result.voice) (words_length result.voice) fits cr_word (lit< tt)
 
   -- a word that is none of the voice's and no sum
-  back_word : (i : ℕ) → ((c : ℕ) → c < 12 → i ≢ SUMS + c) → (20 * v ≤ i → i < 20 * v + 20 → ⊥) → get_or (added back a.channel a.left a.right) i 0 ≡ get_or m i 0
+  back_word : (i : ℕ) → ((c : ℕ) → c < 12 → i ≢ sums_word + c) → (20 * v ≤ i → i < 20 * v + 20 → ⊥) → get_or (added back a.channel a.left a.right) i 0 ≡ get_or m i 0
   back_word i n d =
       added_word back a.channel a.left a.right i n ∙ ap (λ (l : List ℕ). get_or l i 0) back_is
       ∙ put_out_lem m v (words_of result.voice) (words_length result.voice) fits i d
 
-  back_mask : get_or (added back a.channel a.left a.right) WAIT_MASK 0 ≡ get_or m WAIT_MASK 0
-  back_mask = back_word WAIT_MASK (λ c l q. omega arith) (λ b d. omega arith)
+  back_mask : get_or (added back a.channel a.left a.right) wait_mask_word 0 ≡ get_or m wait_mask_word 0
+  back_mask = back_word wait_mask_word (λ c l q. omega arith) (λ b d. omega arith)
 
   -- a flag that is not set after the turn was not set before it, so the mask does not have it
-  not_waiting : flag_of IRQ result.voice.cr ≡ false → bit_of v (get_or m WAIT_MASK 0) ≡ 0
+  not_waiting : flag_of irq_bit result.voice.cr ≡ false → bit_of v (get_or m wait_mask_word 0) ≡ 0
   not_waiting f =
-      let b = (neither _ _ (sym (turn_flag memory (get_or m SLOW 0) (voice_of (voice_at m v))) ∙ f)).0 in
-      ap (bit_of v) s.mask ∙ bit_waits m v h ∙ sym (ap (bit_of IRQ) (voice_word_lem m v CR (lit< tt))) ∙ no_flag_bit IRQ (get_or (voice_at m v) CR 0) b
+      let b = (neither _ _ (sym (turn_flag memory (get_or m slow_word 0) (voice_of (voice_at m v))) ∙ f)).0 in
+      ap (bit_of v) s.mask ∙ bit_waits m v h ∙ sym (ap (bit_of irq_bit) (voice_word_lem m v cr_word (lit< tt))) ∙ no_flag_bit irq_bit (get_or (voice_at m v) cr_word 0) b
 
   pub mask_lacks : let n = added back a.channel a.left a.right in
-      let cr = get_or n (voice_word v CR) 0 in
-      waiting_voices n ≡ cond (flag_of IRQ cr) (with_bit v 1 (get_or n WAIT_MASK 0)) (get_or n WAIT_MASK 0)
+      let cr = get_or n (voice_word v cr_word) 0 in
+      waiting_voices n ≡ cond (flag_of irq_bit cr) (with_bit v 1 (get_or n wait_mask_word 0)) (get_or n wait_mask_word 0)
   mask_lacks =
       let n = added back a.channel a.left a.right in
-      let cr = get_or n (voice_word v CR) 0 in
-      let W = get_or n WAIT_MASK 0 in
-      let e = one_marked m n v (bit_of IRQ cr) s.mask back_mask h (λ u l d. back_word (voice_word u CR) (λ c b q. omega arith) (λ x y. d (omega arith))) refl in
-      split _ (flag_of IRQ cr)
-      (λ t. rw t (e ∙ ap (λ (b : ℕ). with_bit v b W) (flag_bit_lem IRQ cr t)))
-      (λ t. rw t (e ∙ put_again v (bit_of IRQ cr) W
-      (ap (bit_of v) back_mask ∙ not_waiting (sym (ap (flag_of IRQ) back_control) ∙ t) ∙ sym (no_flag_bit IRQ cr t))))
+      let cr = get_or n (voice_word v cr_word) 0 in
+      let W = get_or n wait_mask_word 0 in
+      let e = one_marked m n v (bit_of irq_bit cr) s.mask back_mask h (λ u l d. back_word (voice_word u cr_word) (λ c b q. omega arith) (λ x y. d (omega arith))) refl in
+      split _ (flag_of irq_bit cr)
+      (λ t. rw t (e ∙ ap (λ (b : ℕ). with_bit v b W) (flag_bit_lem irq_bit cr t)))
+      (λ t. rw t (e ∙ put_again v (bit_of irq_bit cr) W
+      (ap (bit_of v) back_mask ∙ not_waiting (sym (ap (flag_of irq_bit) back_control) ∙ t) ∙ sym (no_flag_bit irq_bit cr t))))
 
-  pub turn_taken : signalled (with_mask (added back a.channel a.left a.right)) v (get_or (added back a.channel a.left a.right) (voice_word v CR) 0)
+  pub turn_taken : signalled (with_mask (added back a.channel a.left a.right)) v (get_or (added back a.channel a.left a.right) (voice_word v cr_word) 0)
       ≡ turn_at memory v m
   unfolding turn_at
   turn_taken = rw (back_control, back_added, masked_added, back_is)

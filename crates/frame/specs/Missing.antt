@@ -3,15 +3,15 @@
 use Rattle.std.specs.Prelude.{IsTrue, List, ℕ, ◌+◌, ◌≤◌, slice_index}
 use Rattle.numbers.specs.Sum.{sum}
 use Rattle.control.specs.Control.{runs}
-use Rattle.machine.specs.Words.{ACTV}
+use Rattle.machine.specs.Words.{actv_word}
 use Rattle.machine.specs.Voices.{voice_at}
 use Rattle.voice.specs.Voice.{voice_of}
 use Rattle.voice.specs.Missed.{missed_by, BothThere}
 
 -- the voices 0 to ACTV, each with what it misses
 unfoldable pub missed_in : List ℕ → List ℕ → ℕ
-missed_in memory m = sum (slice_index m ACTV + 1) (λ v. missed_by memory (voice_of (voice_at m v)))
+missed_in memory m = sum (slice_index m actv_word + 1) (λ v. missed_by memory (voice_of (voice_at m v)))
 
 -- of every active voice that runs, both words are in the memory
 abbrev pub AllThere : List ℕ → List ℕ → Type 0
-AllThere memory m = (v : ℕ) → v ≤ slice_index m ACTV → IsTrue (runs (voice_of (voice_at m v)).cr) → BothThere memory (voice_of (voice_at m v))
+AllThere memory m = (v : ℕ) → v ≤ slice_index m actv_word → IsTrue (runs (voice_of (voice_at m v)).cr) → BothThere memory (voice_of (voice_at m v))

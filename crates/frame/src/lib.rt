@@ -6,9 +6,9 @@
 
 ghost use Rattle.std.specs.Prelude.{◌≡◌, IsTrue, if◌then◌else◌, map, ℕ, ◌+◌, ◌*◌, ◌%◌, ◌^◌, ◌<◌, length, slice_index, replicate};
 ghost use Rattle.numbers.specs.Numbers.{Within};
-ghost use Rattle.control.specs.Control.{flag_of, with_bit, IRQ};
+ghost use Rattle.control.specs.Control.{flag_of, with_bit, irq_bit};
 ghost use Rattle.channel.specs.Channel.{put_out};
-ghost use Rattle.machine.specs.Words.{RECORD_WORDS, VOICES, SLOW, SUMS, OUTPUT_VALUES, WAIT_MASK, waiting_voices, with_mask, valid};
+ghost use Rattle.machine.specs.Words.{record_words, voice_count, slow_word, sums_word, output_values, wait_mask_word, waiting_voices, with_mask, valid};
 ghost use Rattle.voice.specs.Voice.{voice_of};
 ghost use Rattle.voice.specs.Takes.{as_addend};
 ghost use Rattle.voice.specs.Missed.{missed_by};
@@ -82,8 +82,8 @@ fn play(m: &mut Machine, memory: &[u16]) -> u32
 // and the mask change together, and between them the record is not valid.
 fn turn(m: &mut [u32], v: usize, slow: u32, samples: &Samples, missing: &mut u32)
     requires m_value { IsTrue (valid m.old) }
-    requires v_bound { v < VOICES }
-    requires slow_value { slow ≡ slice_index m.old SLOW }
+    requires v_bound { v < voice_count }
+    requires slow_value { slow ≡ slice_index m.old slow_word }
     requires missing_bound { missing.old + 2 < 2 ^ 32 }
     ensures m_after { m.new ≡ turn_at samples.now.memory.now v m.old }
     ensures missing_after { missing.new ≡ missing.old + missed_by samples.now.memory.now (voice_of (voice_at m.old v)) }
@@ -100,8 +100,8 @@ fn turn(m: &mut [u32], v: usize, slow: u32, samples: &Samples, missing: &mut u32
 // The record's length and the ranges are clauses here and below: between a turn's writes the record
 // is no `Machine`, and the sides of an addend have the range that `volume::pan` promises of each.
 fn add(m: &mut [u32], addend: Option<Addend>)
-    requires m_len { length m.old ≡ RECORD_WORDS }
-    requires by_index { (i : ℕ) → i < OUTPUT_VALUES → slice_index m.old (SUMS + i) < 8388608 }
+    requires m_len { length m.old ≡ record_words }
+    requires by_index { (i : ℕ) → i < output_values → slice_index m.old (sums_word + i) < 8388608 }
     requires left { Within 1048576 (as_addend addend).left }
     requires right { Within 1048576 (as_addend addend).right }
     ensures { m.new ≡ added m.old (as_addend addend).channel (as_addend addend).left (as_addend addend).right }
@@ -136,7 +136,7 @@ fn add_to(m: &mut [u32], at: usize, z: i32)
 // The left sum of a channel.
 fn left_sum(channel: u32) -> usize
     requires { channel < 6 }
-    ensures { result ≡ SUMS + 2 * channel }
+    ensures { result ≡ sums_word + 2 * channel }
 {
     machine::SUMS + 2 * channel as usize
 }
@@ -145,9 +145,9 @@ fn left_sum(channel: u32) -> usize
 // where the voice does not wait the mask is true already, and costs nothing.
 #[tactic(auto, using(crate::proofs::Steps::signal_enters, crate::proofs::Steps::signal_occupied, crate::proofs::Steps::signal_quiet))]
 fn signal(m: &mut [u32], v: usize, cr: u32)
-    requires m_len { length m.old ≡ RECORD_WORDS }
-    requires v_bound { v < VOICES }
-    requires m_value { waiting_voices m.old ≡ (if flag_of IRQ cr then with_bit v 1 (slice_index m.old WAIT_MASK) else slice_index m.old WAIT_MASK) }
+    requires m_len { length m.old ≡ record_words }
+    requires v_bound { v < voice_count }
+    requires m_value { waiting_voices m.old ≡ (if flag_of irq_bit cr then with_bit v 1 (slice_index m.old wait_mask_word) else slice_index m.old wait_mask_word) }
     ensures { m.new ≡ signalled (with_mask m.old) v cr }
 {
     if control::flag(control::IRQ, cr) {
@@ -160,7 +160,7 @@ fn signal(m: &mut [u32], v: usize, cr: u32)
 
 // The frame is closed: the sums go out and become 0, and the slow-ramp counter goes on.
 fn close(m: &mut Machine, out: &mut [i32])
-    requires { length out.old ≡ OUTPUT_VALUES }
+    requires { length out.old ≡ output_values }
     ensures leaves { Leaves m.old m.new (closed m.old.words.now) }
     ensures out { out.new ≡ heard m.old.words.now }
 {
@@ -172,8 +172,8 @@ fn close(m: &mut Machine, out: &mut [i32])
 // The sums, which become 0 where they stood. Taken by value they cannot be part of the output, so
 // the compiler holds four at a time.
 fn take_sums(sums: &mut [u32]) -> [u32; machine::OUTPUT_VALUES]
-    requires { length sums.old ≡ OUTPUT_VALUES }
-    ensures { (result ≡ sums.old) × (sums.new ≡ replicate OUTPUT_VALUES 0) }
+    requires { length sums.old ≡ output_values }
+    ensures { (result ≡ sums.old) × (sums.new ≡ replicate output_values 0) }
 {
     let Some(sums) = sums.as_mut_array() else {
         unreachable!()
@@ -183,8 +183,8 @@ fn take_sums(sums: &mut [u32]) -> [u32; machine::OUTPUT_VALUES]
 
 // Each sum, held, goes to its place in the output.
 fn put_out(sums: &[u32; machine::OUTPUT_VALUES], out: &mut [i32])
-    requires out_len { length out.old ≡ OUTPUT_VALUES }
-    requires by_index { (i : ℕ) → i < OUTPUT_VALUES → slice_index sums.now i < 8388608 }
+    requires out_len { length out.old ≡ output_values }
+    requires by_index { (i : ℕ) → i < output_values → slice_index sums.now i < 8388608 }
     ensures { out.new ≡ map put_out sums.now }
 {
     // By number: a proof knows nothing of what a `zip` with the values to be changed goes over.

@@ -5,12 +5,12 @@
 ghost use Rattle.std.specs.Prelude.{◌≡◌, ◌&&◌, ◌+◌, ◌<◌, ◌≤◌, if◌then◌else◌, length, slice_index};
 ghost use Rattle.answer.specs.Answer.{answer_of, value_or};
 ghost use Rattle.control.specs.Control.{with_bit};
-ghost use Rattle.machine.specs.Words.{bits_of, voice_bits, shared_bits, RECORD_WORDS as Words-as-RECORD_WORDS, VOICES as Words-as-VOICES, O3N2 as Words-as-O3N2};
-ghost use Rattle.machine.specs.Words.{WAIT_MASK as Words-as-WAIT_MASK, is_vector, waiting_voices, with_mask};
+ghost use Rattle.machine.specs.Words.{bits_of, voice_bits, shared_bits, record_words, voice_count, o3n2_word};
+ghost use Rattle.machine.specs.Words.{wait_mask_word, is_vector, waiting_voices, with_mask};
 ghost use Rattle.machine.specs.Kept.{in_voices, gathered_kept, sums_kept, shared_kept, Lanes};
 ghost use Rattle.machine.specs.Check.{checked};
 ghost use Rattle.machine.specs.Reset.{Resets, fresh};
-ghost use Rattle.machine.specs.Reset.{reset_word as Reset-as-reset_word};
+ghost use Rattle.machine.specs.Reset.{reset_word};
 ghost use Rattle.machine.specs.Waiting.{TellsWaiting};
 
 mod view;
@@ -173,7 +173,7 @@ const SHARED_BITS: [u32; SHARED_WORDS] = [
 /// The bits that word i keeps.
 #[tactic(auto, unfolding(crate::specs::Words::bits_of, crate::specs::Words::shared_bits))]
 pub fn bits_of(i: usize) -> u32
-    requires { i < Words-as-RECORD_WORDS }
+    requires { i < record_words }
     ensures { result ≡ bits_of i }
 {
     if i < PAGE {
@@ -287,9 +287,9 @@ fn gather_flags(m: &[u32; RECORD_WORDS]) -> u32
 // record is no `Machine`.
 #[tactic(auto, unfolding(crate::specs::Words::with_mask))]
 pub fn mark(m: &mut [u32], v: usize, b: bool)
-    requires m_len { length m.old ≡ Words-as-RECORD_WORDS }
-    requires v_bound { v < Words-as-VOICES }
-    requires m_value { waiting_voices m.old ≡ with_bit v (if b then 1 else 0) (slice_index m.old Words-as-WAIT_MASK) }
+    requires m_len { length m.old ≡ record_words }
+    requires v_bound { v < voice_count }
+    requires m_value { waiting_voices m.old ≡ with_bit v (if b then 1 else 0) (slice_index m.old wait_mask_word) }
     ensures { m.new ≡ with_mask m.old }
 {
     let mask = m[WAIT_MASK];
@@ -323,7 +323,7 @@ pub fn reset(m: &mut [u32]) -> Result<(), Refusal>
 // Word i after a reset.
 #[tactic(auto, unfolding(crate::specs::Reset::reset_word))]
 fn reset_word(i: usize) -> u32
-    ensures { result ≡ Reset-as-reset_word i }
+    ensures { result ≡ reset_word i }
 {
     if i < PAGE {
         return if i % VOICE_WORDS == CR { 3 } else { 0 };

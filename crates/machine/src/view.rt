@@ -1,12 +1,12 @@
 //! A record that was checked.
 ghost use Rattle.std.specs.Prelude.{◌≡◌, IsTrue, length};
-ghost use Rattle.machine.specs.Words.{RECORD_WORDS, valid};
+ghost use Rattle.machine.specs.Words.{record_words, valid};
 
 /// A record that a host lends, once it is checked: it stays valid from write to write.
 #[derive(Drop)]
 pub struct Machine<'a> {
     pub words: &'a mut [u32],
-    pub ghost whole: { length words.now ≡ RECORD_WORDS },
+    pub ghost whole: { length words.now ≡ record_words },
     pub ghost sound: { IsTrue (valid words.now) },
 }
 

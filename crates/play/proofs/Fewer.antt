@@ -2,7 +2,7 @@
 use Rattle.std.proofs.Common.{◌≡◌, ℕ, ◌+◌, ◌-◌, ◌/◌, ◌<◌, cond, ltb, List, length, ap, ◌∙◌, arith, length-drop, ltb-true, lt-ltb}
 use Rattle.numbers.proofs.Tests.{split}
 use Rattle.repeats.specs.Repeats.{command_count}
-use Rattle.scores.specs.Sound.{SAMPLE_BYTES}
+use Rattle.scores.specs.Sound.{sample_size}
 use Rattle.scores.specs.Playing.{left_from, Plays}
 use Rattle.scores.specs.declared.Played.{Played}
 
@@ -17,7 +17,7 @@ fewer m memory commands command made part r later heard l h p =
     rw (lt-ltb command (command_count commands) h)
     (split _ (ltb r.position.command (command_count commands))
     (λ t.
-    let e : length part / SAMPLE_BYTES ≡ 16384 = rw l (omega arith) in
-    let d : length (left_from memory commands r.position.command r.position.made) ≡ length (left_from memory commands command made) - length part / SAMPLE_BYTES = ap length p.goes ∙ length-drop (length part / SAMPLE_BYTES) (left_from memory commands command made) in
+    let e : length part / sample_size ≡ 16384 = rw l (omega arith) in
+    let d : length (left_from memory commands r.position.command r.position.made) ≡ length (left_from memory commands command made) - length part / sample_size = ap length p.goes ∙ length-drop (length part / sample_size) (left_from memory commands command made) in
     rw t (omega (arith, d, e, p.ends (ltb-true r.position.command (command_count commands) t))))
     (λ f. rw f (omega arith)))

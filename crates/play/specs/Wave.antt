@@ -3,7 +3,7 @@ use Rattle.std.specs.Prelude.{ℕ, ◌*◌, ◌≡◌, List, ◌++◌, length, O
 use Rattle.std.specs.Io.KnownBytes.{Appends}
 use Rattle.wave_head.specs.Head.{sound_head}
 use Rattle.scores.specs.Score.{Filled, score_frames}
-use Rattle.scores.specs.Sound.{SAMPLE_BYTES}
+use Rattle.scores.specs.Sound.{sample_size}
 use Rattle.scores.specs.Playing.{score_sound}
 
 -- between two contents of a writer; the sample memory has the score's words, and no more
@@ -12,4 +12,4 @@ WritesSound old new score =
     (words : List ℕ)
     × (length words ≡ 4096)
     × Filled 4096 score words
-    × Appends old new (sound_head 2 31250 (SAMPLE_BYTES * score_frames score) ++ score_sound words score)
+    × Appends old new (sound_head 2 31250 (sample_size * score_frames score) ++ score_sound words score)

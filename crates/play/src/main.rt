@@ -10,8 +10,8 @@
 ghost use Rattle.std.specs.Prelude.{◌≡◌, ◌*◌, ◌≤◌, ℕ, List, ◌++◌, length, take, OnOk};
 ghost use Rattle.std.specs.Io.KnownBytes.{Appends};
 ghost use Rattle.wave_head.specs.Head.{sound_head};
-ghost use Rattle.scores.specs.Score.{MOST_FULL_BYTES, MOST_FRAMES, Good, commands_of, verdict_of};
-ghost use Rattle.scores.specs.Sound.{SAMPLE_BYTES};
+ghost use Rattle.scores.specs.Score.{most_full_bytes, most_frames, Good, commands_of, verdict_of};
+ghost use Rattle.scores.specs.Sound.{sample_size};
 ghost use Rattle.scores.specs.Playing.{heard_from, left_from};
 ghost use Rattle.play.specs.Wave.{WritesSound};
 
@@ -44,7 +44,7 @@ fn main(rt: HostRuntime) -> io::Result<ExitCode> {
 
 // A good score, whose commands stand in full at the start of `full`.
 fn play<W: Write>(rt: &impl Eprint, file: &mut W, score: &[u8], full: &[u8]) -> io::Result<()>
-    requires { (verdict_of score.now ≡ Good) × (length full.now ≡ MOST_FULL_BYTES) × (take (length (commands_of score.now)) full.now ≡ commands_of score.now) }
+    requires { (verdict_of score.now ≡ Good) × (length full.now ≡ most_full_bytes) × (take (length (commands_of score.now)) full.now ≡ commands_of score.now) }
     ensures { OnOk result (WritesSound (W.contents file.old) (W.contents file.new) score.now) }
 {
     let n = repeats::full_bytes(&score[scores::MEMORY_BYTES..]);
@@ -66,7 +66,7 @@ fn sound<W: Write>(rt: &impl Eprint, file: &mut W, score: &[u8], commands: &[u8]
 
 // What stands before so many bytes of sound.
 fn put_head<W: Write>(file: &mut W, bytes: u32) -> io::Result<()>
-    requires { bytes ≤ SAMPLE_BYTES * MOST_FRAMES }
+    requires { bytes ≤ sample_size * most_frames }
     ensures { OnOk result (Appends (W.contents file.old) (W.contents file.new) (sound_head 2 31250 bytes)) }
 {
     file.write_all(&wave_head::riff_head(wave_head::CHUNKS_BYTES + bytes))?;
@@ -116,8 +116,8 @@ fn part_buffer() -> [u8; 65536]
 
 // The first frames of a part; answers the loudest sample until then.
 fn put<W: Write>(file: &mut W, part: &[u8], frames: usize, loud: u32) -> io::Result<u32>
-    requires { SAMPLE_BYTES * frames ≤ length part.now }
-    ensures { OnOk result (Appends (W.contents file.old) (W.contents file.new) (take (SAMPLE_BYTES * frames) part.now)) }
+    requires { sample_size * frames ≤ length part.now }
+    ensures { OnOk result (Appends (W.contents file.old) (W.contents file.new) (take (sample_size * frames) part.now)) }
 {
     let sound = &part[..scores::SAMPLE_BYTES * frames];
     file.write_all(sound)?;

@@ -14,7 +14,7 @@ use Rattle.answer.specs.Answer.{answer_of, value_or, Answer, Done, is_done}
 use Rattle.answer.specs.declared.Refusal.{Refusal}
 use Rattle.answer.specs.declared.Refusal.TheVariants.{RecordLength, RecordInvalid, Address, Pot}
 use Rattle.answer.proofs.Refusals.{none_holds, refused_early}
-use Rattle.machine.specs.Words.{PAR, READ_LATCH, RECORD_WORDS, valid}
+use Rattle.machine.specs.Words.{par_word, read_latch_word, record_words, valid}
 use Rattle.machine.specs.Check.{wrong_length, not_valid, checked}
 use Rattle.machine.proofs.Valid.{Sound, is_valid}
 use Rattle.machine.proofs.Answers.{sound_tests, tests_sound, not_refused}
@@ -83,7 +83,7 @@ module _ (m : List ℕ) (a : ℕ) where
   reads_err (Ok x) h e = absurd (false≢true h)
 
   pub reads_done : (byte : ℕ) (after : List ℕ) → asked m 63 a Address ≡ Done → after ≡ read_from m (a / 4) (a % 4)
-      → byte ≡ byte_of (a % 4) (get_or after READ_LATCH 0) → Reads m a Done byte after
+      → byte ≡ byte_of (a % 4) (get_or after read_latch_word 0) → Reads m a Done byte after
   unfolding byte_answer read_record read_byte
   reads_done byte after e l g = record { answers = sym e; gives = rw (e, ← l) g; leaves = rw e l }
 
@@ -92,9 +92,9 @@ module _ (m : List ℕ) (p : ℕ) where
   unfolding pot_answer pot_record
   pot_err r h e = record { answers = e; leaves = rw (← e, refused r h) }
 
-  pub pot_done : asked m 1023 p Pot ≡ Done → SetsPot m p Done (set m PAR p)
+  pub pot_done : asked m 1023 p Pot ≡ Done → SetsPot m p Done (set m par_word p)
   unfolding pot_answer pot_record
   pot_done e = record { answers = sym e; leaves = rw e }
 
-  pub pot_long : asked m 1023 p Pot ≡ Done → length m ≡ RECORD_WORDS
+  pub pot_long : asked m 1023 p Pot ≡ Done → length m ≡ record_words
   pot_long e = (asked_back m 1023 p Pot (ap is_done e)).0.size

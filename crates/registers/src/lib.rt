@@ -6,7 +6,7 @@
 ghost use Rattle.std.specs.Prelude.{◌≡◌, IsTrue, ◌<◌, slice_index, slice_set};
 ghost use Rattle.answer.specs.Answer.{answer_of, value_or};
 ghost use Rattle.machine.specs.Lent.{Leaves};
-ghost use Rattle.machine.specs.Words.{READ_LATCH, WAIT_MASK, cut, with_mask, valid};
+ghost use Rattle.machine.specs.Words.{read_latch_word, wait_mask_word, cut, with_mask, valid};
 ghost use Rattle.registers.specs.Registers.{register_of, byte_of, with_byte, stored, written_to, read_as, side_effect, read_from};
 ghost use Rattle.registers.specs.Registers.{acknowledged};
 ghost use Rattle.registers.specs.Inside.{Inside};
@@ -99,7 +99,7 @@ fn write_byte(machine: &mut Machine, r: u32, k: u32, b: u8)
 fn read_byte(machine: &mut Machine, r: u32, k: u32) -> u8
     requires { (r < 16) × (k < 4) }
     ensures leaves { Leaves machine.old machine.new (read_from machine.old.words.now r k) }
-    ensures gives { result ≡ byte_of k (slice_index machine.new.words.now READ_LATCH) }
+    ensures gives { result ≡ byte_of k (slice_index machine.new.words.now read_latch_word) }
 {
     if k == 0 {
         let register = decode(machine.words[machine::PAGE], r);
@@ -165,7 +165,7 @@ fn store(machine: &mut Machine, register: Register, x: u32)
 #[tactic(auto, using(machine::proofs::Valid::valid_long, machine::proofs::Valid::stored_long, crate::proofs::Valid::mark_stored, crate::proofs::Valid::kept_stored), unfolding(machine::specs::Words::cut))]
 fn store_word(m: &mut [u32], i: usize, x: u32)
     requires m_value { IsTrue (valid m.old) }
-    requires i_bound { i < WAIT_MASK }
+    requires i_bound { i < wait_mask_word }
     ensures { m.new ≡ with_mask (slice_set m.old i (cut i x)) }
 {
     let y = x & machine::bits_of(i);
@@ -180,7 +180,7 @@ fn store_word(m: &mut [u32], i: usize, x: u32)
 #[tactic(auto, using(machine::proofs::Valid::valid_long, crate::proofs::Valid::valid_word, crate::proofs::Valid::valid_read_latch, crate::proofs::Valid::valid_pot, crate::proofs::Valid::valid_acknowledged), unfolding(crate::specs::Registers::read_as, crate::specs::Registers::side_effect))]
 fn load(machine: &mut Machine, register: Register)
     requires { Inside register }
-    ensures { Leaves machine.old machine.new (side_effect (slice_set machine.old.words.now READ_LATCH (read_as machine.old.words.now register)) register) }
+    ensures { Leaves machine.old machine.new (side_effect (slice_set machine.old.words.now read_latch_word (read_as machine.old.words.now register)) register) }
 {
     match register {
         Register::Word(i) => machine.words[machine::READ_LATCH] = machine.words[i],

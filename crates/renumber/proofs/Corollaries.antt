@@ -13,9 +13,9 @@ use lib.Dec.{lit<, lit≤}
 use lib.IntN.{ℤ, pos}
 use lib.ListN.{length, get_or, replicate}
 use borrow.Author.Tests.{eq-eqb, ne_eqb}
-use Rattle.machine.specs.Words.{PAGE, ACTV, voice_word, valid}
+use Rattle.machine.specs.Words.{page_word, actv_word, voice_word, valid}
 use Rattle.machine.proofs.Valid.{Sound, sound}
-use Rattle.sample.specs.Sample.{MOST_MEMORY_WORDS}
+use Rattle.sample.specs.Sample.{most_memory_words}
 use Rattle.registers.specs.Registers.{register_of, byte_of}
 use Rattle.registers.specs.declared.Register.TheVariants.{Word}
 use Rattle.registers.specs.Access.{write_record}
@@ -50,7 +50,7 @@ one_after_other (next b hk hb d) e = next b hk hb (one_after_other d e)
 one_after_other (last b hb d) e = last b hb (one_after_other d e)
 
 -- calls, then a frame that is lent what it asks for, then a trace on the machine that it leaves: together they are a trace
-pub one_frame_more : {m : List ℕ} {φ ψ : Phase} {t u : List Call} {ps : List Put} {l : Log} (memory : List ℕ) (out : List ℤ) → length memory ≤ MOST_MEMORY_WORDS → length out ≡ 12
+pub one_frame_more : {m : List ℕ} {φ ψ : Phase} {t u : List Call} {ps : List Put} {l : Log} (memory : List ℕ) (out : List ℤ) → length memory ≤ most_memory_words → length out ≡ 12
     → Sound m → too_few m ≡ false → In m φ → Between m φ t ps ψ
     → (let n = after (run m t) (Frame memory out) in Sound n → too_few n ≡ false → In n ψ → Trace n ψ u l)
     → Trace m φ (t ++ Frame memory out ∷ u) (Then ps memory l)
@@ -59,7 +59,7 @@ one_frame_more {m} {ψ = ψ} {t = t} memory out h k s v i d f =
     let r = stretch s i d in
     let s₁ = r.moved.sound in
     let v₁ : too_few (run m t) ≡ false = rw r.moved.active v in
-    let v₂ : too_few (after (run m t) (Frame memory out)) ≡ false = rw (frame_word (run m t) memory out s₁ ACTV (lit≤ tt) (lit< tt) (λ e. omega arith) (λ e. omega arith)) v₁ in
+    let v₂ : too_few (after (run m t) (Frame memory out)) ≡ false = rw (frame_word (run m t) memory out s₁ actv_word (lit≤ tt) (lit< tt) (λ e. omega arith) (λ e. omega arith)) v₁ in
     let a = not_refused_frame (run m t) memory out (record { machine = s₁; voices = v₁; samples = h; values = k }) in
     go_on memory out d a (f (frame_sound (run m t) memory out s₁) v₂ (over_frame ψ memory out s₁ r.phase))
 
@@ -74,7 +74,7 @@ one_write {m} p s f =
     let hv = f.voice in
     let hj = f.word in
     let hp = page_lt v j hv in
-    let e : register_of (get_or (write_record m (4 * 15 + 3) (page_for v j)) PAGE 0) (register_for j) ≡ Word (voice_word v j) = rw (page_after (page_for v j) s (omega arith)) (named v j hv hj) in
+    let e : register_of (get_or (write_record m (4 * 15 + 3) (page_for v j)) page_word 0) (register_for j) ≡ Word (voice_word v j) = rw (page_after (page_for v j) s (omega arith)) (named v j hv hj) in
     let q : ◌≡◌ {A = Put} (record { voice = v; word = j; number = 256 * (256 * (256 * byte_of 0 x + byte_of 1 x) + byte_of 2 x) + byte_of 3 x }) p =
     λ i. record { voice = v; word = j; number = four_bytes x f.number i } in
     subst (λ (y : Put). Between m idle (writes p) (y ∷ []) idle) q
@@ -132,13 +132,13 @@ module _ (s : ℕ → ℕ) (active : ℕ) (R : Renumbering active s) where
 
 -- A score played on other voices sounds the same, and leaves each voice as it would have left the other. Five voices or more are active, so
 -- that no frame is refused; no score writes ACTV.
-pub on_other_voices : (s : ℕ → ℕ) (m n : List ℕ) → valid m ≡ true → valid n ≡ true → too_few m ≡ false → Renumbering (get_or m ACTV 0) s → Match s m n
+pub on_other_voices : (s : ℕ → ℕ) (m n : List ℕ) → valid m ≡ true → valid n ≡ true → too_few m ≡ false → Renumbering (get_or m actv_word 0) s → Match s m n
     → (fs : List Step) → Playable fs
     → (outputs m (calls_of fs) ≡ outputs n (calls_of (map (step_on s) fs))) × Match s (run m (calls_of fs)) (run n (calls_of (map (step_on s) fs)))
 on_other_voices s m n vm vn v R M fs h =
     let r = inaudible s m n vm vn R M (calls_of fs) (calls_of (map (step_on s) fs)) (log_of fs) (log_of (map (step_on s) fs))
-    (score_trace fs (sound m vm) v h) (score_trace (map (step_on s) fs) (sound n vn) (rw (← M.active) v) (playable_on s (get_or m ACTV 0) R fs h))
-    (score_on s (get_or m ACTV 0) R fs h) in
+    (score_trace fs (sound m vm) v h) (score_trace (map (step_on s) fs) (sound n vn) (rw (← M.active) v) (playable_on s (get_or m actv_word 0) R fs h))
+    (score_on s (get_or m actv_word 0) R fs h) in
     (r.1, r.2)
 
 itself : ℕ → ℕ
@@ -158,14 +158,14 @@ unfolding itself
 matches_itself m = record { voices = λ v h. same_equal refl; active = refl; slow = refl; sums = λ c h. refl }
 
 -- Two voices may be written in either order.
-pub in_either_order : (m : List ℕ) → valid m ≡ true → too_few m ≡ false → (p q : Put) → p.voice ≢ q.voice → Fits p → Fits q → (memory : List ℕ) → length memory ≤ MOST_MEMORY_WORDS
+pub in_either_order : (m : List ℕ) → valid m ≡ true → too_few m ≡ false → (p q : Put) → p.voice ≢ q.voice → Fits p → Fits q → (memory : List ℕ) → length memory ≤ most_memory_words
     → (fs : List Step) → Playable fs
     → outputs m (calls_of (record { puts = p ∷ q ∷ []; memory = memory } ∷ fs)) ≡ outputs m (calls_of (record { puts = q ∷ p ∷ []; memory = memory } ∷ fs))
 unfolding log_of itself
 in_either_order m vm v p q d hp hq memory l fs h =
     let a : List Step = record { puts = p ∷ q ∷ []; memory = memory } ∷ fs in
     let b : List Step = record { puts = q ∷ p ∷ []; memory = memory } ∷ fs in
-    (inaudible itself m m vm vm (nothing_renumbered (get_or m ACTV 0)) (matches_itself m) (calls_of a) (calls_of b) (log_of a) (log_of b)
+    (inaudible itself m m vm vm (nothing_renumbered (get_or m actv_word 0)) (matches_itself m) (calls_of a) (calls_of b) (log_of a) (log_of b)
     (score_trace a (sound m vm) v ((hp, (hq, tt)), l, h)) (score_trace b (sound m vm) v ((hq, (hp, tt)), l, h)) (either, refl, score_itself fs)).1
   where
     either : SameWrites itself (p ∷ q ∷ []) (q ∷ p ∷ [])

@@ -15,9 +15,9 @@ use lib.ListN.{length, get_or, set, length-set}
 use lib.Seq.{get_or-set_other}
 use borrow.Author.Tests.{ne_eqb, lt-ltb}
 use Rattle.numbers.specs.Sum.{sum}
-use Rattle.control.specs.Control.{bit_of, with_bit, IRQ}
+use Rattle.control.specs.Control.{bit_of, with_bit, irq_bit}
 use Rattle.control.proofs.Agree.{put_apart}
-use Rattle.machine.specs.Words.{PAGE, IRQV, ACTV, SLOW, SUMS, shared_bits, bits_of, cut, cut_to, is_vector, has_true_mask, waiting_voices, with_mask, valid, WAIT_MASK, RECORD_WORDS}
+use Rattle.machine.specs.Words.{page_word, irqv_word, actv_word, slow_word, sums_word, shared_bits, bits_of, cut, cut_to, is_vector, has_true_mask, waiting_voices, with_mask, valid, wait_mask_word, record_words}
 use Rattle.machine.specs.Voices.{voice_at, put_voice}
 use Rattle.machine.specs.Reset.{reset_word, words_from, fresh}
 use Rattle.machine.proofs.Parts.{voice_same, voice_set_shared, put_length, put_same, put_other, put_out_lem}
@@ -43,7 +43,7 @@ unfoldable pub note : ℕ → List ℕ
 note CR = CR ∷ 0 ∷ 65520 ∷ 0 ∷ 65520 ∷ 0 ∷ 0 ∷ 65520 ∷ 0 ∷ 65520 ∷ 0 ∷ 0 ∷ 4294967168 ∷ 0 ∷ 0 ∷ 0 ∷ 0 ∷ 0 ∷ 0 ∷ 0 ∷ []
 
 unfoldable pub machine : ℕ → ℕ → ℕ → ℕ → List ℕ
-machine v CR page vector = with_mask (set (set (put_voice fresh v (note CR)) PAGE page) IRQV vector)
+machine v CR page vector = with_mask (set (set (put_voice fresh v (note CR)) page_word page) irqv_word vector)
 
 -- the note is in voice 3, whose interrupt flag is set, in the mask too, and which the vector names; or in voice 5, with no flag and another page
 unfoldable pub one : List ℕ
@@ -87,7 +87,7 @@ twice : (v : ℕ) → exchanged (exchanged v) ≡ v
 unfolding exchanged
 twice v = exchanged_cases v (λ x y. exchanged y ≡ x) refl refl (λ e f. rw (ne_eqb v 3 e, ne_eqb v 5 f))
 
-renumbers : Renumbering (get_or one ACTV 0) exchanged
+renumbers : Renumbering (get_or one actv_word 0) exchanged
 unfolding one machine note put_voice fresh words_from reset_word with_mask
 renumbers = record {
   into = λ v h. exchanged_cases v (λ x y. x < 32 → y < 32) (λ _. lit< tt) (λ _. lit< tt) (λ _ _ k. k) h;
@@ -105,16 +105,16 @@ module _ (v CR page vector : ℕ) (h : v < 32) where
   unfolding note
   note_long = refl
 
-  size : length (put_voice fresh v (note CR)) ≡ RECORD_WORDS
+  size : length (put_voice fresh v (note CR)) ≡ record_words
   size = put_length fresh v (note CR) note_long note_fits ∙ fresh-length
 
   -- the shared words are none of the voices'
   below : (u : ℕ) → u < 32 → voice_at (machine v CR page vector) u ≡ voice_at (put_voice fresh v (note CR)) u
   unfolding machine
   below u k =
-      masked_voice (set (set (put_voice fresh v (note CR)) PAGE page) IRQV vector) u (simp length-set size) k
-      ∙ voice_set_shared (set (put_voice fresh v (note CR)) PAGE page) u IRQV vector (length-set (put_voice fresh v (note CR)) PAGE page ∙ size) k (omega arith)
-      ∙ voice_set_shared (put_voice fresh v (note CR)) u PAGE page size k (omega arith)
+      masked_voice (set (set (put_voice fresh v (note CR)) page_word page) irqv_word vector) u (simp length-set size) k
+      ∙ voice_set_shared (set (put_voice fresh v (note CR)) page_word page) u irqv_word vector (length-set (put_voice fresh v (note CR)) page_word page ∙ size) k (omega arith)
+      ∙ voice_set_shared (put_voice fresh v (note CR)) u page_word page size k (omega arith)
 
   at_note : voice_at (machine v CR page vector) v ≡ note CR
   at_note = below v h ∙ put_same fresh v (note CR) note_long note_fits
@@ -122,12 +122,12 @@ module _ (v CR page vector : ℕ) (h : v < 32) where
   at_rest : (u : ℕ) → u < 32 → u ≢ v → voice_at (machine v CR page vector) u ≡ voice_at fresh u
   at_rest u k d = below u k ∙ put_other fresh v (note CR) note_long note_fits u (omega (arith, fresh-length)) d
 
-  above : (i : ℕ) → IRQV < i → i < WAIT_MASK → get_or (machine v CR page vector) i 0 ≡ get_or fresh i 0
+  above : (i : ℕ) → irqv_word < i → i < wait_mask_word → get_or (machine v CR page vector) i 0 ≡ get_or fresh i 0
   unfolding machine
   above i k l =
-      masked_word (set (set (put_voice fresh v (note CR)) PAGE page) IRQV vector) i (λ e. omega arith)
-      ∙ get_or-set_other (set (put_voice fresh v (note CR)) PAGE page) IRQV i vector 0 (λ e. omega arith)
-      ∙ get_or-set_other (put_voice fresh v (note CR)) PAGE i page 0 (λ e. omega arith)
+      masked_word (set (set (put_voice fresh v (note CR)) page_word page) irqv_word vector) i (λ e. omega arith)
+      ∙ get_or-set_other (set (put_voice fresh v (note CR)) page_word page) irqv_word i vector 0 (λ e. omega arith)
+      ∙ get_or-set_other (put_voice fresh v (note CR)) page_word i page 0 (λ e. omega arith)
       ∙ put_out_lem fresh v (note CR) note_long note_fits i (λ a b. omega arith)
 
 -- after a reset all voices are alike
@@ -135,7 +135,7 @@ rest_word : (v j : ℕ) → v < 32 → j < 20 → get_or fresh (20 * v + j) 0 �
 unfolding reset_word
 rest_word v j h k =
     let e : (20 * v + j) % 20 ≡ j = omega arith in
-    fresh_at (20 * v + j) (omega arith) ∙ rw (lt-ltb (20 * v + j) PAGE (omega arith), e)
+    fresh_at (20 * v + j) (omega arith) ∙ rw (lt-ltb (20 * v + j) page_word (omega arith), e)
 
 rest : (u v : ℕ) → u < 32 → v < 32 → voice_at fresh u ≡ voice_at fresh v
 rest u v h k = voice_same fresh fresh u v (omega (arith, fresh-length)) (omega (arith, fresh-length)) (λ j l. rest_word u j h l ∙ sym (rest_word v j k l))
@@ -143,7 +143,7 @@ rest u v h k = voice_same fresh fresh u v (omega (arith, fresh-length)) (omega (
 -- the two notes differ in the interrupt flag alone
 same_note : SameVoice (note 896) (note 768)
 unfolding note with_bit bit_of
-same_note = record { control = put_apart IRQ 1 768 (omega arith); others = at }
+same_note = record { control = put_apart irq_bit 1 768 (omega arith); others = at }
   where
     at : (j : ℕ) → 0 < j → j < 20 → get_or (note 896) j 0 ≡ get_or (note 768) j 0
     at zero l k = absurd (let z : ⊥ = omega arith in z)
@@ -157,12 +157,12 @@ matches = record {
       (λ _. rw (at_rest 3 896 3 3 (lit< tt) 5 (lit< tt) (λ e. omega arith), at_rest 5 768 90 128 (lit< tt) 3 (lit< tt) (λ e. omega arith)) (same_equal (rest 5 3 (lit< tt) (lit< tt))))
       (λ e f k. rw (at_rest 3 896 3 3 (lit< tt) v k e, at_rest 5 768 90 128 (lit< tt) v k f) (same_equal refl))
       h;
-  active = same ACTV (lit< tt) (lit< tt);
-  slow = same SLOW (lit< tt) (lit< tt);
-  sums = λ c h. same (SUMS + c) (omega arith) (omega arith);
+  active = same actv_word (lit< tt) (lit< tt);
+  slow = same slow_word (lit< tt) (lit< tt);
+  sums = λ c h. same (sums_word + c) (omega arith) (omega arith);
 }
   where
-    same : (i : ℕ) → IRQV < i → i < WAIT_MASK → get_or one i 0 ≡ get_or other i 0
+    same : (i : ℕ) → irqv_word < i → i < wait_mask_word → get_or one i 0 ≡ get_or other i 0
     same i k l = above 3 896 3 3 (lit< tt) i k l ∙ sym (above 5 768 90 128 (lit< tt) i k l)
 
 -- ---- two traces

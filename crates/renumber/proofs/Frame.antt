@@ -6,7 +6,7 @@ use Prim.Native.Nat.{ℕ}
 use lib.IntN.{ℤ}
 use lib.ListN.{get_or}
 use Rattle.answer.specs.Answer.{Done}
-use Rattle.machine.specs.Words.{ACTV}
+use Rattle.machine.specs.Words.{actv_word}
 use Rattle.machine.proofs.Valid.{Sound}
 use Rattle.frame.specs.Frame.{played}
 use Rattle.frame.specs.Paired.{Paired}
@@ -25,7 +25,7 @@ kept = record {
   misses = λ memory h. same_missing memory h;
 }
 
-module _ (memory : List ℕ) (s : ℕ → ℕ) (m n : List ℕ) (sm : Sound m) (sn : Sound n) (R : Renumbering (get_or m ACTV 0) s) (M : Match s m n)
+module _ (memory : List ℕ) (s : ℕ → ℕ) (m n : List ℕ) (sm : Sound m) (sn : Sound n) (R : Renumbering (get_or m actv_word 0) s) (M : Match s m n)
     (out out' : List ℤ) (dm : answer_to m (Frame memory out) ≡ Done) (dn : answer_to n (Frame memory out') ≡ Done) where
   paired : Paired SameVoice s m n
   paired = record { voices = M.voices; active = M.active; slow = M.slow; sums = M.sums }

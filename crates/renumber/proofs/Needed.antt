@@ -12,13 +12,13 @@ use lib.IntN.{ℤ, pos, nat_abs}
 use lib.ListN.{get_or, set, replicate}
 use Rattle.numbers.specs.Numbers.{floor_div, floor_mod, signed, word, held}
 use Rattle.numbers.specs.Sum.{sum}
-use Rattle.control.specs.Control.{bit_of, flag_of, with_bit, runs, IRQ}
+use Rattle.control.specs.Control.{bit_of, flag_of, with_bit, runs, irq_bit}
 use Rattle.sample.specs.Sample.{first_at, second_at, fetched, missing_of, sample_of, fraction, interpolated}
 use Rattle.filter.specs.Filter.{low_pass, high_pass, coefficient, pole3, pole4, filtered}
 use Rattle.volume.specs.Volume.{mantissa, exponent, volume_of, panned}
 use Rattle.channel.specs.Channel.{mixed, put_out}
 use Rattle.address.specs.Address.{raised, forward_event, reverse_event, forward, reverse, stepped}
-use Rattle.machine.specs.Words.{CR, ACTV, SUMS, shared_bits, bits_of, cut, cut_to, is_vector, has_true_mask, waiting_voices, with_mask, valid, WAIT_MASK, voice_word}
+use Rattle.machine.specs.Words.{cr_word, actv_word, sums_word, shared_bits, bits_of, cut, cut_to, is_vector, has_true_mask, waiting_voices, with_mask, valid, wait_mask_word, voice_word}
 use Rattle.machine.specs.Voices.{voice_at, put_voice}
 use Rattle.machine.specs.Check.{checked}
 use Rattle.machine.specs.Reset.{reset_answer, reset_word, words_from, fresh}
@@ -49,9 +49,9 @@ pub computed :
     × (loudness (outputs other (frame 1000 ∷ [])) ≡ 15952)
     × (loudness (outputs other (frame 2000 ∷ [])) ≡ 31905)
     × (loudness (outputs other silence) ≡ 0)
-    × (loudness (outputs (set one ACTV 4) (frame 1000 ∷ [])) ≡ 15952)
-    × (loudness (outputs (set other ACTV 4) (frame 1000 ∷ [])) ≡ 0)
-    × (loudness (outputs (set other SUMS 1) (frame 1000 ∷ [])) ≡ 15953)
+    × (loudness (outputs (set one actv_word 4) (frame 1000 ∷ [])) ≡ 15952)
+    × (loudness (outputs (set other actv_word 4) (frame 1000 ∷ [])) ≡ 0)
+    × (loudness (outputs (set other sums_word 1) (frame 1000 ∷ [])) ≡ 15953)
 unfolding frame loudness silence one other machine note put_voice voice_at fresh words_from reset_word valid cut_to cut bits_of shared_bits is_vector has_true_mask waiting_voices with_mask sum reset_answer checked outputs output_from after byte_answer write_record written_to stored with_byte register_of low_page high_page sum_page frame_answer frame_record frame_output played turns turn_at added added_to signalled mixed put_out heard silenced closed words_of turn_of running_turn stopped_turn with_outputs moved ramped_levels last_outputs sampled fetched fraction interpolated sample_of first_at second_at floor_div floor_mod signed word held filtered pole3 pole4 low_pass high_pass coefficient panned volume_of mantissa exponent stepped forward reverse forward_event reverse_event raised runs flag_of bit_of with_bit
 computed = (refl, refl, refl, refl, refl, refl, refl)
 
@@ -77,16 +77,16 @@ pub voices_needed : outputs one (frame 1000 ∷ []) ≢ outputs other silence
 voices_needed = differ (outputs one (frame 1000 ∷ [])) (outputs other silence) (λ e. omega (arith, computed.0, computed.3))
 
 -- active voices are mapped to active voices: where voices 0 to 4 are active, voice 5 is not
-pub active_needed : outputs (set one ACTV 4) (frame 1000 ∷ []) ≢ outputs (set other ACTV 4) (frame 1000 ∷ [])
-active_needed = differ (outputs (set one ACTV 4) (frame 1000 ∷ [])) (outputs (set other ACTV 4) (frame 1000 ∷ [])) (λ e. omega (arith, computed.4, computed.5))
+pub active_needed : outputs (set one actv_word 4) (frame 1000 ∷ []) ≢ outputs (set other actv_word 4) (frame 1000 ∷ [])
+active_needed = differ (outputs (set one actv_word 4) (frame 1000 ∷ [])) (outputs (set other actv_word 4) (frame 1000 ∷ [])) (λ e. omega (arith, computed.4, computed.5))
 
 -- channel sums are equal
-pub sums_needed : outputs one (frame 1000 ∷ []) ≢ outputs (set other SUMS 1) (frame 1000 ∷ [])
-sums_needed = differ (outputs one (frame 1000 ∷ [])) (outputs (set other SUMS 1) (frame 1000 ∷ [])) (λ e. omega (arith, computed.0, computed.6))
+pub sums_needed : outputs one (frame 1000 ∷ []) ≢ outputs (set other sums_word 1) (frame 1000 ∷ [])
+sums_needed = differ (outputs one (frame 1000 ∷ [])) (outputs (set other sums_word 1) (frame 1000 ∷ [])) (λ e. omega (arith, computed.0, computed.6))
 
 -- Interrupt flags are excepted, and the mask with them: a read of the vector on one machine alone clears a flag there.
 pub flags_needed :
-    (bit_of IRQ (get_or (run one []) (voice_word 3 CR) 0) ≢ bit_of IRQ (get_or (run one (Read 56 ∷ [])) (voice_word 3 CR) 0))
-    × (get_or (run one []) WAIT_MASK 0 ≢ get_or (run one (Read 56 ∷ [])) WAIT_MASK 0)
+    (bit_of irq_bit (get_or (run one []) (voice_word 3 cr_word) 0) ≢ bit_of irq_bit (get_or (run one (Read 56 ∷ [])) (voice_word 3 cr_word) 0))
+    × (get_or (run one []) wait_mask_word 0 ≢ get_or (run one (Read 56 ∷ [])) wait_mask_word 0)
 unfolding one machine note put_voice fresh words_from reset_word valid cut_to cut bits_of shared_bits is_vector has_true_mask waiting_voices with_mask sum reset_answer checked run after byte_answer read_record read_from side_effect acknowledged read_as register_of bit_of with_bit
 flags_needed = ((λ e. let q : ◌≡◌ {A = ℕ} 1 0 = e in omega arith), (λ e. let q : ◌≡◌ {A = ℕ} 8 0 = e in omega arith))

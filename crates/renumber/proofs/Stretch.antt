@@ -17,7 +17,7 @@ use lib.Seq.{get_or-set_same, get_or-set_other}
 use borrow.Author.Tests.{eq-eqb, ne_eqb}
 use Rattle.numbers.proofs.Tests.{split, cases}
 use Rattle.answer.specs.Answer.{is_done}
-use Rattle.machine.specs.Words.{PAGE, PAR, ACTV, SLOW, WRITE_LATCH, SUMS, voice_word, cut, with_mask}
+use Rattle.machine.specs.Words.{page_word, par_word, actv_word, slow_word, write_latch_word, sums_word, voice_word, cut, with_mask}
 use Rattle.machine.specs.Voices.{voice_at}
 use Rattle.machine.proofs.Parts.{voice_word_lem, voice_length, voice_same, voice_set, voice_set_out}
 use Rattle.machine.proofs.Valid.{Sound, in_range, sound, is_valid, cut_again, cut_voice, range_set, sound_masked, sound_set}
@@ -61,9 +61,9 @@ puts_both v (p ∷ ps) qs w = split _ (eqb v p.voice)
 pub record Moved (m : List ℕ) (ps : List Put) (m' : List ℕ) : Type 0 where
   pub sound : Sound m'
   pub voices : (v : ℕ) → v < 32 → SameVoice (voice_at m' v) (puts (of_voice v ps) (voice_at m v))
-  pub active : get_or m' ACTV 0 ≡ get_or m ACTV 0
-  pub slow : get_or m' SLOW 0 ≡ get_or m SLOW 0
-  pub sums : (c : ℕ) → c < 12 → get_or m' (SUMS + c) 0 ≡ get_or m (SUMS + c) 0
+  pub active : get_or m' actv_word 0 ≡ get_or m actv_word 0
+  pub slow : get_or m' slow_word 0 ≡ get_or m slow_word 0
+  pub sums : (c : ℕ) → c < 12 → get_or m' (sums_word + c) 0 ≡ get_or m (sums_word + c) 0
 
 pub voice_size : {m : List ℕ} (v : ℕ) → Sound m → v < 32 → length (voice_at m v) ≡ 20
 voice_size {m} v s h = voice_length m v (omega (arith, s.size))
@@ -89,7 +89,7 @@ moved_then {m} {m₁} {m₂} {ps} {qs} s a b = record {
 -- ---- a word that no match speaks of
 
 abbrev Unheard : ℕ → Type 0
-Unheard i = (PAGE ≤ i) × (i < SUMS) × (i ≢ ACTV) × (i ≢ SLOW)
+Unheard i = (page_word ≤ i) × (i < sums_word) × (i ≢ actv_word) × (i ≢ slow_word)
 
 -- every word but word i is as it was
 abbrev AllBut : ℕ → List ℕ → List ℕ → Type 0
@@ -101,16 +101,16 @@ quiet {m} {m'} i u s s' f = record {
   sound = s';
   voices = λ v h.
       same_equal (voice_same m' m v v (omega (arith, s'.size)) (omega (arith, s.size)) (λ j k. f (20 * v + j) (λ e. omega (arith, u.0))));
-  active = f ACTV (λ e. u.2 (sym e));
-  slow = f SLOW (λ e. u.3 (sym e));
-  sums = λ c h. f (SUMS + c) (λ e. omega (arith, u.1));
+  active = f actv_word (λ e. u.2 (sym e));
+  slow = f slow_word (λ e. u.3 (sym e));
+  sums = λ c h. f (sums_word + c) (λ e. omega (arith, u.1));
 }
 
 but_set : (m : List ℕ) (i x : ℕ) → AllBut i m (set m i x)
 but_set m i x k d = get_or-set_other m i k x 0 d
 
-latch_moved : {m : List ℕ} (x : ℕ) → Sound m → x < 2 ^ 32 → Moved m [] (set m WRITE_LATCH x)
-latch_moved {m} x s h = quiet WRITE_LATCH (lit≤ tt, lit< tt, λ e. omega arith, λ e. omega arith) s (write_latch x s h) (but_set m WRITE_LATCH x)
+latch_moved : {m : List ℕ} (x : ℕ) → Sound m → x < 2 ^ 32 → Moved m [] (set m write_latch_word x)
+latch_moved {m} x s h = quiet write_latch_word (lit≤ tt, lit< tt, λ e. omega arith, λ e. omega arith) s (write_latch x s h) (but_set m write_latch_word x)
 
 -- ---- a write of a voice
 
@@ -122,9 +122,9 @@ put_moved {m} v j x s hv hj =
     record {
       sound = sound_masked (range_set i y (in_range s) (omega arith) (cut_again i x) (λ e. absurd (let z : ⊥ = omega arith in z)));
       voices = λ u hu. rw (masked_voice (set m i y) u (length-set m i y ∙ s.size) hu) (at u hu (ℕ_discrete u v));
-      active = masked_word (set m i y) ACTV (λ e. omega arith) ∙ get_or-set_other m i ACTV y 0 (λ e. omega arith);
-      slow = masked_word (set m i y) SLOW (λ e. omega arith) ∙ get_or-set_other m i SLOW y 0 (λ e. omega arith);
-      sums = λ c h. masked_word (set m i y) (SUMS + c) (λ e. omega arith) ∙ get_or-set_other m i (SUMS + c) y 0 (λ e. omega arith);
+      active = masked_word (set m i y) actv_word (λ e. omega arith) ∙ get_or-set_other m i actv_word y 0 (λ e. omega arith);
+      slow = masked_word (set m i y) slow_word (λ e. omega arith) ∙ get_or-set_other m i slow_word y 0 (λ e. omega arith);
+      sums = λ c h. masked_word (set m i y) (sums_word + c) (λ e. omega arith) ∙ get_or-set_other m i (sums_word + c) y 0 (λ e. omega arith);
     }
   where
     at : (u : ℕ) → u < 32 → Dec (u ≡ v) → SameVoice (voice_at (set m (voice_word v j) (cut (voice_word v j) x)) u) (puts (of_voice u (record { voice = v; word = j; number = x } ∷ [])) (voice_at m u))
@@ -135,8 +135,8 @@ put_moved {m} v j x s hv hj =
 
 -- what a begun write goes by is as it was
 pub record Kept (m m' : List ℕ) : Type 0 where
-  pub page : get_or m' PAGE 0 ≡ get_or m PAGE 0
-  pub latch : get_or m' WRITE_LATCH 0 ≡ get_or m WRITE_LATCH 0
+  pub page : get_or m' page_word 0 ≡ get_or m page_word 0
+  pub latch : get_or m' write_latch_word 0 ≡ get_or m write_latch_word 0
 
 record Quiet (m m' : List ℕ) : Type 0 where
   moved : Moved m [] m'
@@ -155,13 +155,13 @@ read_quiet {m} a s = record {
           ∙ read_keeps m a (voice_word v j) (λ e. omega arith) (λ e. omega arith) (λ e. omega arith) (λ e. omega arith) (λ e. omega arith)
           ∙ sym (voice_word_lem m v j k);
     };
-    active = read_shared m a ACTV s (lit≤ tt) (lit< tt) (λ e. omega arith) (λ e. omega arith) (λ e. omega arith);
-    slow = read_shared m a SLOW s (lit≤ tt) (lit< tt) (λ e. omega arith) (λ e. omega arith) (λ e. omega arith);
-    sums = λ c h. read_shared m a (SUMS + c) s (omega arith) (omega arith) (λ e. omega arith) (λ e. omega arith) (λ e. omega arith);
+    active = read_shared m a actv_word s (lit≤ tt) (lit< tt) (λ e. omega arith) (λ e. omega arith) (λ e. omega arith);
+    slow = read_shared m a slow_word s (lit≤ tt) (lit< tt) (λ e. omega arith) (λ e. omega arith) (λ e. omega arith);
+    sums = λ c h. read_shared m a (sums_word + c) s (omega arith) (omega arith) (λ e. omega arith) (λ e. omega arith) (λ e. omega arith);
   };
   kept = record {
-    page = read_shared m a PAGE s (lit≤ tt) (lit< tt) (λ e. omega arith) (λ e. omega arith) (λ e. omega arith);
-    latch = read_shared m a WRITE_LATCH s (lit≤ tt) (lit< tt) (λ e. omega arith) (λ e. omega arith) (λ e. omega arith);
+    page = read_shared m a page_word s (lit≤ tt) (lit< tt) (λ e. omega arith) (λ e. omega arith) (λ e. omega arith);
+    latch = read_shared m a write_latch_word s (lit≤ tt) (lit< tt) (λ e. omega arith) (λ e. omega arith) (λ e. omega arith);
   };
 }
 
@@ -170,8 +170,8 @@ unfolding after
 pot_quiet {m} p s =
     let f = pot_keeps m p in
     record {
-      moved = quiet PAR (lit≤ tt, lit< tt, λ e. omega arith, λ e. omega arith) s (sound (pot_record m p) (pot_valid m p (is_valid m s))) f;
-      kept = record { page = f PAGE (λ e. omega arith); latch = f WRITE_LATCH (λ e. omega arith) };
+      moved = quiet par_word (lit≤ tt, lit< tt, λ e. omega arith, λ e. omega arith) s (sound (pot_record m p) (pot_valid m p (is_valid m s))) f;
+      kept = record { page = f page_word (λ e. omega arith); latch = f write_latch_word (λ e. omega arith) };
     }
 
 no_move : {m : List ℕ} → Sound m → Moved m [] m
@@ -186,17 +186,17 @@ refused_quiet {m} a b s h = rw (write_refused m a b h) (record { moved = no_move
 
 byte_moved : {m : List ℕ} (r k b : ℕ) → Sound m → r < 16 → k < 3 → b < 256 → Moved m [] (write_record m (4 * r + k) b)
 byte_moved {m} r k b s hr hk hb =
-    rw (byte_written r k b s hr hk) (latch_moved (with_byte k b (get_or m WRITE_LATCH 0)) s (byte_lt k b (get_or m WRITE_LATCH 0) (omega arith) hb (latch_lt s)))
+    rw (byte_written r k b s hr hk) (latch_moved (with_byte k b (get_or m write_latch_word 0)) s (byte_lt k b (get_or m write_latch_word 0) (omega arith) hb (latch_lt s)))
 
 -- any byte of PAGE
 page_moved : {m : List ℕ} (k b : ℕ) → Sound m → k < 4 → b < 256 → Moved m [] (write_record m (4 * 15 + k) b)
 page_moved {m} k b s hk hb = cases k 3 (Moved m [] (write_record m (4 * 15 + k) b))
     (λ l. byte_moved 15 k b s (lit< tt) l hb)
     (λ l.
-    let x = with_byte 3 b (get_or m WRITE_LATCH 0) in
+    let x = with_byte 3 b (get_or m write_latch_word 0) in
     let e : k ≡ 3 = omega arith in
-    let p = quiet PAGE (lit≤ tt, lit< tt, λ e. omega arith, λ e. omega arith) s (sound_set PAGE (cut PAGE x) s (lit≤ tt) (lit< tt) (cut_again PAGE x) (λ z. absurd (let y : ⊥ = omega arith in y))) (but_set m PAGE (cut PAGE x)) in
-    rw (e, shared_written 15 b PAGE s (lit< tt) (page_named (get_or m PAGE 0)) (lit≤ tt)) (moved_then s p (latch_moved 0 p.sound (lit< tt))))
+    let p = quiet page_word (lit≤ tt, lit< tt, λ e. omega arith, λ e. omega arith) s (sound_set page_word (cut page_word x) s (lit≤ tt) (lit< tt) (cut_again page_word x) (λ z. absurd (let y : ⊥ = omega arith in y))) (but_set m page_word (cut page_word x)) in
+    rw (e, shared_written 15 b page_word s (lit< tt) (page_named (get_or m page_word 0)) (lit≤ tt)) (moved_then s p (latch_moved 0 p.sound (lit< tt))))
 
 -- ---- the calls
 
@@ -205,8 +205,8 @@ pub record Begun (m : List ℕ) (r v j k x : ℕ) : Type 0 where
   hr : r < 16
   hv : v < 32
   hj : j < 20
-  named : register_of (get_or m PAGE 0) r ≡ Word (voice_word v j)
-  top : top_of k (get_or m WRITE_LATCH 0) ≡ x
+  named : register_of (get_or m page_word 0) r ≡ Word (voice_word v j)
+  top : top_of k (get_or m write_latch_word 0) ≡ x
 
 abbrev pub In : List ℕ → Phase → Type 0
 In m idle = Unit {0}
@@ -218,20 +218,20 @@ in_kept (begun r v j k x) q i = record { hr = i.hr; hv = i.hv; hj = i.hj; named 
 
 one_byte_more : {m : List ℕ} (r v j k x b : ℕ) → Sound m → Begun m r v j k x → k < 3 → b < 256 → Begun (write_record m (4 * r + k) b) r v j (k + 1) (256 * x + b)
 one_byte_more {m} r v j k x b s i hk hb =
-    let y = with_byte k b (get_or m WRITE_LATCH 0) in
+    let y = with_byte k b (get_or m write_latch_word 0) in
     rw (byte_written r k b s i.hr hk)
     (record {
       hr = i.hr;
       hv = i.hv;
       hj = i.hj;
-      named = rw (get_or-set_other m WRITE_LATCH PAGE y 0 (λ e. omega arith)) i.named;
-      top = rw (get_or-set_same m WRITE_LATCH y 0 (omega (arith, s.size))) (top_next k b (get_or m WRITE_LATCH 0) hk hb (latch_lt s) ∙ ap (λ (n : ℕ). 256 * n + b) i.top);
+      named = rw (get_or-set_other m write_latch_word page_word y 0 (λ e. omega arith)) i.named;
+      top = rw (get_or-set_same m write_latch_word y 0 (omega (arith, s.size))) (top_next k b (get_or m write_latch_word 0) hk hb (latch_lt s) ∙ ap (λ (n : ℕ). 256 * n + b) i.top);
     })
 
 last_moved : {m : List ℕ} (r v j x b : ℕ) → Sound m → Begun m r v j 3 x → Moved m (record { voice = v; word = j; number = 256 * x + b } ∷ []) (write_record m (4 * r + 3) b)
 last_moved {m} r v j x b s i =
     let p = put_moved v j (256 * x + b) s i.hv i.hj in
-    rw (last_written r b (voice_word v j) s i.hr i.named, top_last b (get_or m WRITE_LATCH 0), i.top) (moved_then s p (latch_moved 0 p.sound (lit< tt)))
+    rw (last_written r b (voice_word v j) s i.hr i.named, top_last b (get_or m write_latch_word 0), i.top) (moved_then s p (latch_moved 0 p.sound (lit< tt)))
 
 -- each voice has got its writes, and the writes have come as far as the phase says
 pub record Stretched (m : List ℕ) (ps : List Put) (m' : List ℕ) (ψ : Phase) : Type 0 where
@@ -259,7 +259,7 @@ stretch s i (paging k b hk hb d) =
     call_then s q (stretch q.sound tt d)
 stretch {m} s i (first r v j b hr hv hj hb e d) =
     let q = byte_moved r 0 b s hr (lit< tt) hb in
-    let o = rw (zero-add b) at (one_byte_more r v j 0 0 b s (record { hr = hr; hv = hv; hj = hj; named = e; top = top_none (get_or m WRITE_LATCH 0) (latch_lt s) }) (lit< tt) hb) in
+    let o = rw (zero-add b) at (one_byte_more r v j 0 0 b s (record { hr = hr; hv = hv; hj = hj; named = e; top = top_none (get_or m write_latch_word 0) (latch_lt s) }) (lit< tt) hb) in
     call_then s q (stretch q.sound o d)
 stretch s i (next {r = r} {v = v} {j = j} {k = k} {x = x} b hk hb d) =
     let q = byte_moved r k b s i.hr hk hb in

@@ -9,7 +9,7 @@ use lib.Dec.{lit<, lit≤}
 use lib.IntN.{ℤ}
 use lib.ListN.{get_or}
 use Rattle.answer.specs.Answer.{Done}
-use Rattle.machine.specs.Words.{PAGE, ACTV, WRITE_LATCH}
+use Rattle.machine.specs.Words.{page_word, actv_word, write_latch_word}
 use Rattle.machine.specs.Voices.{voice_at}
 use Rattle.machine.proofs.Valid.{Sound, sound}
 use Rattle.calls.specs.Calls.{Call, Frame, answer_to, after, output_from, run, outputs}
@@ -56,14 +56,14 @@ over_frame {m} φ memory out s i =
     let keeps = frame_word m memory out s in
     in_kept φ
     (record {
-      page = keeps PAGE (lit≤ tt) (lit< tt) (λ e. omega arith) (λ e. omega arith);
-      latch = keeps WRITE_LATCH (lit≤ tt) (lit< tt) (λ e. omega arith) (λ e. omega arith);
+      page = keeps page_word (lit≤ tt) (lit< tt) (λ e. omega arith) (λ e. omega arith);
+      latch = keeps write_latch_word (lit≤ tt) (lit< tt) (λ e. omega arith) (λ e. omega arith);
     })
     i
 
 -- ---- the traces, frame by frame
 
-along : (s : ℕ → ℕ) {m n : List ℕ} {φ ψ : Phase} {t u : List Call} {l k : Log} → Sound m → Sound n → In m φ → In n ψ → Renumbering (get_or m ACTV 0) s → Match s m n
+along : (s : ℕ → ℕ) {m n : List ℕ} {φ ψ : Phase} {t u : List Call} {l k : Log} → Sound m → Sound n → In m φ → In n ψ → Renumbering (get_or m actv_word 0) s → Match s m n
     → (T : Trace m φ t l) (U : Trace n ψ u k) → Alike s l k → Along s T U × (outputs m t ≡ outputs n u) × Match s (run m t) (run n u)
 unfolding run
 along s sm sn pm pn R M (stop d) (stop e) w =
@@ -77,14 +77,14 @@ along s {m} {n} sm sn pm pn R M (go_on {ψ = φ₁} {t = t} {u = u} memory out d
     let a = p.moved in
     let b = q.moved in
     let M₁ = moved_match R.into sm sn a b w.0 M in
-    let R₁ : Renumbering (get_or (run m t) ACTV 0) s = rw a.active R in
+    let R₁ : Renumbering (get_or (run m t) actv_word 0) s = rw a.active R in
     let dn₁ : answer_to (run n t') (Frame memory out') ≡ Done = rw w.1 dn in
     let F : SameFrame (run m t) (run n t') (Frame memory out) (Frame memory' out') =
     rw (← w.1) (frame_same memory s (run m t) (run n t') a.sound b.sound R₁ M₁ out out' dm dn₁) in
     let M₂ : Match s (after (run m t) (Frame memory out)) (after (run n t') (Frame memory' out')) =
     rw (← w.1) (frame_match memory s (run m t) (run n t') a.sound b.sound R₁ M₁ out out' dm dn₁) in
-    let R₂ : Renumbering (get_or (after (run m t) (Frame memory out)) ACTV 0) s =
-    rw (frame_word (run m t) memory out a.sound ACTV (lit≤ tt) (lit< tt) (λ e. omega arith) (λ e. omega arith)) R₁ in
+    let R₂ : Renumbering (get_or (after (run m t) (Frame memory out)) actv_word 0) s =
+    rw (frame_word (run m t) memory out a.sound actv_word (lit≤ tt) (lit< tt) (λ e. omega arith) (λ e. omega arith)) R₁ in
     let r = along s (frame_sound (run m t) memory out a.sound) (frame_sound (run n t') memory' out' b.sound)
     (over_frame φ₁ memory out a.sound p.phase) (over_frame ψ₁ memory' out' b.sound q.phase) R₂ M₂ f g w.2 in (
       (M₁, F, M₂, r.0),

@@ -4,8 +4,8 @@
 -- traces that are alike; what holds along them; the theorem. Assumes nothing.
 use Rattle.std.specs.Prelude.{◌≡◌, ◌≢◌, IsTrue, IsFalse, if◌then◌else◌, List, [], ◌∷◌, ◌++◌, ℕ, ◌+◌, ◌*◌, ◌≤◌, ◌<◌, ◌==◌, ℤ, length, slice_index}
 use Rattle.answer.specs.Answer.{Done, is_done}
-use Rattle.control.specs.Control.{bit_of, IRQ}
-use Rattle.machine.specs.Words.{VOICES, VOICE_WORDS, CR, PAGE, ACTV, SLOW, SUMS, OUTPUT_VALUES, voice_word, valid}
+use Rattle.control.specs.Control.{bit_of, irq_bit}
+use Rattle.machine.specs.Words.{voice_count, voice_words, cr_word, page_word, actv_word, slow_word, sums_word, output_values, voice_word, valid}
 use Rattle.machine.specs.Voices.{voice_at}
 use Rattle.registers.specs.Registers.{register_of}
 use Rattle.registers.specs.declared.Register.TheVariants.{Word}
@@ -22,24 +22,24 @@ OneToOne k s = (v u : ℕ) → v < k → u < k → s v ≡ s u → v ≡ u
 
 -- voice v of the one machine is voice s v of the other; the active voices, 0 to `active`, become active ones
 pub record Renumbering (active : ℕ) (s : ℕ → ℕ) : Type 0 where
-  pub into : Into VOICES s
-  pub one_to_one : OneToOne VOICES s
+  pub into : Into voice_count s
+  pub one_to_one : OneToOne voice_count s
   pub stays_active : (v : ℕ) → v ≤ active → s v ≤ active
 
 -- ---- machines that match
 
 -- two voices hold the same registers, interrupt flags excepted: of CR every bit but IRQ, and every other word
 pub record SameVoice (w x : List ℕ) : Type 0 where
-  pub control : (b : ℕ) → b ≢ IRQ → bit_of b (slice_index w CR) ≡ bit_of b (slice_index x CR)
-  pub others : (j : ℕ) → CR < j → j < VOICE_WORDS → slice_index w j ≡ slice_index x j
+  pub control : (b : ℕ) → b ≢ irq_bit → bit_of b (slice_index w cr_word) ≡ bit_of b (slice_index x cr_word)
+  pub others : (j : ℕ) → cr_word < j → j < voice_words → slice_index w j ≡ slice_index x j
 
 -- The voices match under s, and the active counts, the slow-ramp counters and the channel sums are equal. All else may differ: PAGE,
 -- IRQV, PAR, MODE, W_ST, W_END, LR_END, both latches, and the mask of the waiting voices, which is excepted with the flags.
 pub record Match (s : ℕ → ℕ) (m n : List ℕ) : Type 0 where
-  pub voices : (v : ℕ) → v < VOICES → SameVoice (voice_at m v) (voice_at n (s v))
-  pub active : slice_index m ACTV ≡ slice_index n ACTV
-  pub slow : slice_index m SLOW ≡ slice_index n SLOW
-  pub sums : (c : ℕ) → c < OUTPUT_VALUES → slice_index m (SUMS + c) ≡ slice_index n (SUMS + c)
+  pub voices : (v : ℕ) → v < voice_count → SameVoice (voice_at m v) (voice_at n (s v))
+  pub active : slice_index m actv_word ≡ slice_index n actv_word
+  pub slow : slice_index m slow_word ≡ slice_index n slow_word
+  pub sums : (c : ℕ) → c < output_values → slice_index m (sums_word + c) ≡ slice_index n (sums_word + c)
 
 -- ---- whole register writes
 
@@ -79,8 +79,8 @@ pub data Between : List ℕ → Phase → List Call → List Put → Phase → T
   paging : {m : List ℕ} {ψ : Phase} {t : List Call} {ps : List Put} (k b : ℕ) → k < 4 → b < 256
       → Between (after m (Write (4 * 15 + k) b)) idle t ps ψ → Between m idle (Write (4 * 15 + k) b ∷ t) ps ψ
   -- byte 0 of a register that, as PAGE stands now, names word j of voice v
-  first : {m : List ℕ} {ψ : Phase} {t : List Call} {ps : List Put} (r v j b : ℕ) → r < 16 → v < VOICES → j < VOICE_WORDS → b < 256
-      → register_of (slice_index m PAGE) r ≡ Word (voice_word v j)
+  first : {m : List ℕ} {ψ : Phase} {t : List Call} {ps : List Put} (r v j b : ℕ) → r < 16 → v < voice_count → j < voice_words → b < 256
+      → register_of (slice_index m page_word) r ≡ Word (voice_word v j)
       → Between (after m (Write (4 * r + 0) b)) (begun r v j 1 b) t ps ψ → Between m idle (Write (4 * r + 0) b ∷ t) ps ψ
   -- byte 1 or 2 of it
   next : {m : List ℕ} {r v j k x : ℕ} {ψ : Phase} {t : List Call} {ps : List Put} (b : ℕ) → k < 3 → b < 256
@@ -112,7 +112,7 @@ pub data Trace : List ℕ → Phase → List Call → Log → Type 0 where
 
 -- each voice gets the same writes in its own order, however they are mixed with those of others
 abbrev pub SameWrites : (ℕ → ℕ) → List Put → List Put → Type 0
-SameWrites s ps qs = (v : ℕ) → v < VOICES → of_voice v ps ≡ of_voice (s v) qs
+SameWrites s ps qs = (v : ℕ) → v < voice_count → of_voice v ps ≡ of_voice (s v) qs
 
 -- so before each frame and after the last; there are as many frames, and each gets the same sample memory
 abbrev pub Alike : (ℕ → ℕ) → Log → Log → Type 0
@@ -126,7 +126,7 @@ Alike s (Then ps memory l) (Then qs memory' k) = SameWrites s ps qs × (memory �
 -- a frame puts out the same twelve values on both machines, and answers the same number of missing words
 pub record SameFrame (m n : List ℕ) (c d : Call) : Type 0 where
   pub values : output_from m c ≡ output_from n d
-  pub twelve : length (output_from m c) ≡ OUTPUT_VALUES
+  pub twelve : length (output_from m c) ≡ output_values
   pub missing : given_by m c ≡ given_by n d
 
 -- every frame does; as it begins and after it, and after the calls that follow the last, the machines match
@@ -147,6 +147,6 @@ Along s (go_on {m = m} {t = t} memory out b e f) (go_on {m = n} {t = u} memory' 
 -- and in the end matching voices hold the same registers, interrupt flags excepted.
 abbrev pub Inaudible : Type 0
 Inaudible =
-    (s : ℕ → ℕ) (m n : List ℕ) → IsTrue (valid m) → IsTrue (valid n) → Renumbering (slice_index m ACTV) s → Match s m n
+    (s : ℕ → ℕ) (m n : List ℕ) → IsTrue (valid m) → IsTrue (valid n) → Renumbering (slice_index m actv_word) s → Match s m n
     → (t u : List Call) (l k : Log) (T : Trace m idle t l) (U : Trace n idle u k) → Alike s l k
     → Along s T U × (outputs m t ≡ outputs n u) × Match s (run m t) (run n u)

@@ -2,8 +2,8 @@
 -- In order: the calls of writes; a score and its calls; the score on other voices; what a score may hold. The calls of one write are
 -- `calls/specs/WholeWrite`. Assumes nothing.
 use Rattle.std.specs.Prelude.{List, [], ◌∷◌, ◌++◌, map, ℕ, ◌^◌, ◌<◌, ◌≤◌, pos, length, replicate}
-use Rattle.sample.specs.Sample.{MOST_MEMORY_WORDS}
-use Rattle.machine.specs.Words.{VOICES, VOICE_WORDS, OUTPUT_VALUES}
+use Rattle.sample.specs.Sample.{most_memory_words}
+use Rattle.machine.specs.Words.{voice_count, voice_words, output_values}
 use Rattle.calls.specs.Calls.{Call, Frame}
 use Rattle.calls.specs.WholeWrite.{write_calls}
 use Rattle.renumber.specs.Demand.{Put}
@@ -26,7 +26,7 @@ pub record Step : Type 0 where
 
 unfoldable pub calls_of : List Step → List Call
 calls_of [] = []
-calls_of (f ∷ fs) = all_writes f.puts ++ Frame f.memory (replicate OUTPUT_VALUES (pos 0)) ∷ calls_of fs
+calls_of (f ∷ fs) = all_writes f.puts ++ Frame f.memory (replicate output_values (pos 0)) ∷ calls_of fs
 
 -- ---- the score on other voices
 
@@ -39,8 +39,8 @@ step_on s f = record { puts = map (put_on s) f.puts; memory = f.memory }
 -- ---- what a score may hold: words of the 32 voices, 32 bits for each, and memory that no frame refuses
 
 pub record Fits (p : Put) : Type 0 where
-  pub voice : p.voice < VOICES
-  pub word : p.word < VOICE_WORDS
+  pub voice : p.voice < voice_count
+  pub word : p.word < voice_words
   pub number : p.number < 2 ^ 32
 
 abbrev pub AllFit : List Put → Type 0
@@ -49,4 +49,4 @@ AllFit (p ∷ ps) = Fits p × AllFit ps
 
 abbrev pub Playable : List Step → Type 0
 Playable [] = Unit {0}
-Playable (f ∷ fs) = AllFit f.puts × (length f.memory ≤ MOST_MEMORY_WORDS) × Playable fs
+Playable (f ∷ fs) = AllFit f.puts × (length f.memory ≤ most_memory_words) × Playable fs

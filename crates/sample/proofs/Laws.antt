@@ -17,8 +17,8 @@ use Rattle.numbers.specs.Numbers.{floor_div, signed, Bits}
 use Rattle.numbers.proofs.Difference.{◌⊖◌, is_neg, ⊖_eq, ⊖-add, ⊖-sub, ⊖-mul}
 use Rattle.numbers.proofs.Words.{biased, bits-⊖, floor_up, pos-sub}
 use Rattle.codes.specs.Codes.{value_of}
-use Rattle.control.specs.Control.{flag_of, bank_of, CMPD}
-use Rattle.sample.specs.Sample.{MemoryWord, Words, MOST_MEMORY_WORDS, word_at, first_at, second_at, sample_of, fetched, missing_of, interpolated}
+use Rattle.control.specs.Control.{flag_of, bank_of, cmpd_bit}
+use Rattle.sample.specs.Sample.{MemoryWord, Words, most_memory_words, word_at, first_at, second_at, sample_of, fetched, missing_of, interpolated}
 use Rattle.sample.specs.Lasts.{last_of, Lasts}
 
 -- the value between two samples that are moved up to be no numbers below zero
@@ -53,11 +53,11 @@ interpolated-bits f x y hf hx hy =
     subst (Bits 18) (sym ((λ i. interpolated f (a.2 i) (b.2 i)) ∙ interpolated-⊖ f a.0 b.0 hf a.1 b.1))
     (interpolated_fits f a.0 b.0 hf a.1 b.1)
 
-pub compressed_word : (CR w : ℕ) → flag_of CMPD CR ≡ true → sample_of CR w ≡ value_of (w / 256)
+pub compressed_word : (CR w : ℕ) → flag_of cmpd_bit CR ≡ true → sample_of CR w ≡ value_of (w / 256)
 unfolding sample_of
 compressed_word CR w t = rw t
 
-pub linear_word : (CR w : ℕ) → flag_of CMPD CR ≡ false → sample_of CR w ≡ signed 16 w
+pub linear_word : (CR w : ℕ) → flag_of cmpd_bit CR ≡ false → sample_of CR w ≡ signed 16 w
 unfolding sample_of
 linear_word CR w t = rw t
 
@@ -71,7 +71,7 @@ signed_16 w h = by (ltb w 32768)
     by false = sym (pos-sub w 65536 ∙ is_neg w 65536 (65536 - suc w) (omega arith))
 
 -- what a word stands for depends on CMPD alone, and a fetch on the bank
-pub sample_coded : (c d w : ℕ) → flag_of CMPD c ≡ flag_of CMPD d → sample_of c w ≡ sample_of d w
+pub sample_coded : (c d w : ℕ) → flag_of cmpd_bit c ≡ flag_of cmpd_bit d → sample_of c w ≡ sample_of d w
 unfolding sample_of
 sample_coded c d w e = rw e
 
@@ -123,6 +123,6 @@ module _ (w : Words) where
   unfolding missing_of
   missing_both p q = rw (p, q)
 
-pub within_four_banks : (CR ACCUM : ℕ) → ACCUM < 4294967296 → (first_at CR ACCUM < MOST_MEMORY_WORDS) × (second_at CR ACCUM < MOST_MEMORY_WORDS)
+pub within_four_banks : (CR ACCUM : ℕ) → ACCUM < 4294967296 → (first_at CR ACCUM < most_memory_words) × (second_at CR ACCUM < most_memory_words)
 unfolding first_at second_at
 within_four_banks CR ACCUM h = (omega arith, omega arith)

@@ -3,22 +3,22 @@
 use Rattle.std.specs.Prelude.{ℕ, ◌+◌, ◌*◌, ◌/◌, ◌%◌, Bool, true, false, if◌then◌else◌, Option, None, Some, List, nat_lt, ℤ, pos, ◌+ℤ◌, ◌-ℤ◌, ◌*ℤ◌, length, slice_index}
 use Rattle.numbers.specs.Numbers.{floor_div, signed}
 use Rattle.codes.specs.Codes.{value_of}
-use Rattle.control.specs.Control.{flag_of, bank_of, CMPD}
+use Rattle.control.specs.Control.{flag_of, bank_of, cmpd_bit}
 
 -- how many words a bank has, and how many the memory may have at most: four banks
-abbrev pub BANK_WORDS : ℕ
-BANK_WORDS = 2097152
+abbrev pub bank_words : ℕ
+bank_words = 2097152
 
-abbrev pub MOST_MEMORY_WORDS : ℕ
-MOST_MEMORY_WORDS = 4 * BANK_WORDS
+abbrev pub most_memory_words : ℕ
+most_memory_words = 4 * bank_words
 
 -- so many words of memory are more than can be lent
 abbrev pub too_many_words : ℕ → Bool
-too_many_words n = nat_lt MOST_MEMORY_WORDS n
+too_many_words n = nat_lt most_memory_words n
 
 -- what one sample is in START, END and ACCUM, which also have a fraction of one
-abbrev pub WHOLE_SAMPLE : ℕ
-WHOLE_SAMPLE = 2048
+abbrev pub whole_sample : ℕ
+whole_sample = 2048
 
 -- a word that was asked for, 0 where it was not there, and whether it was; and the two words of a fetch
 pub record MemoryWord : Type 0 where
@@ -41,10 +41,10 @@ word_at memory i = record { bits = slice_index memory i; there = nat_lt i (lengt
 -- the words of the first and of the second sample: one at ACCUM's whole part, in the voice's bank, and the next, which wraps within
 -- the bank
 unfoldable pub first_at : ℕ → ℕ → ℕ
-first_at CR ACCUM = bank_of CR * BANK_WORDS + ACCUM / WHOLE_SAMPLE
+first_at CR ACCUM = bank_of CR * bank_words + ACCUM / whole_sample
 
 unfoldable pub second_at : ℕ → ℕ → ℕ
-second_at CR ACCUM = bank_of CR * BANK_WORDS + (ACCUM / WHOLE_SAMPLE + 1) % BANK_WORDS
+second_at CR ACCUM = bank_of CR * bank_words + (ACCUM / whole_sample + 1) % bank_words
 
 unfoldable pub fetched : List ℕ → ℕ → ℕ → Words
 fetched memory CR ACCUM = record { first = word_at memory (first_at CR ACCUM); second = word_at memory (second_at CR ACCUM) }
@@ -55,11 +55,11 @@ missing_of w = (if w.first.there then 0 else 1) + (if w.second.there then 0 else
 
 -- what a word stands for: a sample of 16 bits, or where CMPD is 1 the value of the code in its high byte
 unfoldable pub sample_of : ℕ → ℕ → ℤ
-sample_of CR w = if flag_of CMPD CR then value_of (w / 256) else signed 16 w
+sample_of CR w = if flag_of cmpd_bit CR then value_of (w / 256) else signed 16 w
 
 -- F: ACCUM's nine upper fractional bits
 unfoldable pub fraction : ℕ → ℕ
-fraction ACCUM = ACCUM % WHOLE_SAMPLE / 4
+fraction ACCUM = ACCUM % whole_sample / 4
 
 -- X = 4 * S1 + F * (S2 - S1) / 128
 unfoldable pub interpolated : ℕ → ℤ → ℤ → ℤ

@@ -4,7 +4,7 @@
 
 ghost use Rattle.std.specs.Prelude.{◌≡◌, if◌then◌else◌, ◌+◌, ◌*◌, ◌^◌, ◌<◌, length};
 ghost use Rattle.numbers.specs.Numbers.{Bits};
-ghost use Rattle.sample.specs.Sample.{as_word, word_at, fetched, missing_of, sample_of, fraction, interpolated, BANK_WORDS as Sample-as-BANK_WORDS};
+ghost use Rattle.sample.specs.Sample.{as_word, word_at, fetched, missing_of, sample_of, fraction, interpolated, bank_words};
 ghost use Rattle.sample.specs.Lasts.{last_of, Lasts};
 
 /// How many words a bank has.
@@ -98,8 +98,8 @@ fn tally(word: Option<u16>, missing: &mut u32)
 // The word of the memory that is word i of a bank.
 fn place(bank: u32, i: u32) -> usize
     requires bank_bound { bank < 4 }
-    requires i_bound { i < Sample-as-BANK_WORDS }
-    ensures { result ≡ bank * Sample-as-BANK_WORDS + i }
+    requires i_bound { i < bank_words }
+    ensures { result ≡ bank * bank_words + i }
 {
     (bank * BANK_WORDS + i) as usize
 }

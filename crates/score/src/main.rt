@@ -11,7 +11,7 @@
 
 ghost use Rattle.std.specs.Prelude.{◌≤◌, length, OnOk};
 ghost use Rattle.std.specs.Io.KnownBytes.{Appends};
-ghost use Rattle.scores.specs.Score.{MOST_BYTES, MEMORY_BYTES};
+ghost use Rattle.scores.specs.Score.{most_bytes, memory_bytes};
 ghost use Rattle.score.specs.Values.{value_text, values_text};
 
 use answer::Refusal;
@@ -38,7 +38,7 @@ fn main(rt: HostRuntime) -> io::Result<()> {
 
 // Its commands in full, on a record that is not valid at first.
 fn play<W: Write>(out: &mut W, score: &[u8], full: &mut [u8]) -> io::Result<()>
-    requires { (MEMORY_BYTES ≤ length score.now) × (length score.now ≤ MOST_BYTES) }
+    requires { (memory_bytes ≤ length score.now) × (length score.now ≤ most_bytes) }
 {
     let commands = &score[scores::MEMORY_BYTES..];
     if full.len() < repeats::full_bytes(commands) {

@@ -20,7 +20,7 @@ use Rattle.layout.specs.Parts.{part}
 use Rattle.layout.specs.Bytes.{big2_at}
 use Rattle.layout.proofs.Bytes.{part_2}
 use Rattle.layout.proofs.Endian.{big_2_at}
-use Rattle.repeats.specs.Repeats.{COMMAND_BYTES, command_count, kind_at, number_at, byte_at}
+use Rattle.repeats.specs.Repeats.{command_bytes, command_count, kind_at, number_at, byte_at}
 use Rattle.layout.proofs.Parts.{chunk_is}
 use Rattle.repeats.proofs.Command.{command_is, own_kind, own_number, own_byte}
 use Rattle.scores.specs.Score.{command_of, command_at, command_no, times_of, frames_of, first_below, all_below}
@@ -28,13 +28,13 @@ use Rattle.scores.specs.declared.Command.{Command}
 use Rattle.calls.specs.declared.Ask.{Ask}
 
 -- a command by its own bytes is the one that stands where they stand
-pub command_part : (xs : List ℕ) (i : ℕ) → command_at (part xs i COMMAND_BYTES) 0 ≡ command_at xs i
+pub command_part : (xs : List ℕ) (i : ℕ) → command_at (part xs i command_bytes) 0 ≡ command_at xs i
 command_part xs i = λ j. command_of (own_kind xs i j) (own_number xs i j) (own_byte xs i j)
 
-module _ (xs : List ℕ) (chunks : List (List ℕ)) (front : chunks ≡ first_chunks COMMAND_BYTES (command_count xs) xs) where
+module _ (xs : List ℕ) (chunks : List (List ℕ)) (front : chunks ≡ first_chunks command_bytes (command_count xs) xs) where
   pub command_own : (k : ℕ) → k < command_count xs → command_at (get_or chunks k []) 0 ≡ command_no xs k
   command_own k h =
-      let i = COMMAND_BYTES * k in
+      let i = command_bytes * k in
       ap (λ (c : List ℕ). command_at c 0) (command_is xs chunks k front h) ∙ command_part xs i
 
   -- the frames of one command more
@@ -52,8 +52,8 @@ module _ (xs : List ℕ) (chunks : List (List ℕ)) (front : chunks ≡ first_ch
     below_to zero h = refl
     below_to (suc k) h =
         let more = rw add-one at (list_all_more below chunks k [] (omega arith)) in
-        let own : get_or (get_or chunks k []) 0 0 ≡ kind_at xs (COMMAND_BYTES * k) =
-        ap (λ (c : List ℕ). get_or c 0 0) (command_is xs chunks k front (omega arith)) ∙ own_kind xs (COMMAND_BYTES * k) in
+        let own : get_or (get_or chunks k []) 0 0 ≡ kind_at xs (command_bytes * k) =
+        ap (λ (c : List ℕ). get_or c 0 0) (command_is xs chunks k front (omega arith)) ∙ own_kind xs (command_bytes * k) in
         more ∙ (λ j. below_to k (omega arith) j && ltb (own j) kind)
 
     pub all_are_below : list_all (λ c. ltb (get_or c 0 0) kind) chunks ≡ all_below kind xs
@@ -62,7 +62,7 @@ module _ (xs : List ℕ) (chunks : List (List ℕ)) (front : chunks ≡ first_ch
 
 -- ---- how many calls one makes
 
-number_few : (xs : List ℕ) (i : ℕ) → i + COMMAND_BYTES ≤ length xs → ((j : ℕ) → Fits w8 (get_or xs j 0)) → number_at xs i < 65536
+number_few : (xs : List ℕ) (i : ℕ) → i + command_bytes ≤ length xs → ((j : ℕ) → Fits w8 (get_or xs j 0)) → number_at xs i < 65536
 number_few xs i h bytes =
     let e : from_be_bytes w16 (part xs (i + 1) 2) ≡ number_at xs i = big_2_at xs (i + 1) (omega arith) in
     let p = ap (from_be_bytes w16) (part_2 xs (i + 1) (omega arith)) in
@@ -83,5 +83,5 @@ times_few kind n byte =
 
 pub command_few : (xs : List ℕ) (k : ℕ) → k < command_count xs → ((j : ℕ) → Fits w8 (get_or xs j 0)) → times_of (command_no xs k) ≤ 65536
 command_few xs k h bytes =
-    let i = COMMAND_BYTES * k in
+    let i = command_bytes * k in
     omega (arith, times_few (kind_at xs i) (number_at xs i) (byte_at xs i), number_few xs i (omega arith) bytes)

@@ -11,7 +11,7 @@ use Rattle.numbers.proofs.Tests.{split}
 use Rattle.layout.specs.Parts.{with_part}
 use Rattle.answer.specs.Answer.{Answer, is_done}
 use Rattle.answer.proofs.Refusals.{is_done_lem}
-use Rattle.machine.specs.Words.{OUTPUT_VALUES}
+use Rattle.machine.specs.Words.{output_values}
 use Rattle.frame.specs.Frame.{played, frame_answer, frame_output}
 use Rattle.frame.proofs.Answered.{done_frame}
 use Rattle.frame.proofs.Keeps.{sound_played}
@@ -44,7 +44,7 @@ puts_out Ask.Waiting m memory out h = absurd (false≢true h)
 puts_out Ask.Frame m memory out h = refl
 
 -- a frame that is lent twelve zeros leaves twelve values, refused or not
-frame_long : (m memory : List ℕ) → length (output_from m (Frame memory silence)) ≡ OUTPUT_VALUES
+frame_long : (m memory : List ℕ) → length (output_from m (Frame memory silence)) ≡ output_values
 unfolding answer_to output_from frame_output
 frame_long m memory =
     split _ (is_done (frame_answer m memory silence))
@@ -54,7 +54,7 @@ frame_long m memory =
     (λ f. rw f refl)
 
 abbrev pub Long : Call → Type 0
-Long c = (m : List ℕ) → is_frame c ≡ true → length (output_from m c) ≡ OUTPUT_VALUES
+Long c = (m : List ℕ) → is_frame c ≡ true → length (output_from m c) ≡ output_values
 
 pub call_long : (ask : Ask) (memory : List ℕ) → Long (call_of ask memory silence)
 unfolding is_frame

@@ -16,13 +16,13 @@ use Rattle.numbers.proofs.Tests.{cases}
 use Rattle.layout.specs.Bytes.{little_bytes}
 use Rattle.layout.proofs.Parts.{with_length}
 use Rattle.answer.specs.Answer.{Answer, is_done}
-use Rattle.machine.specs.Words.{OUTPUT_VALUES}
+use Rattle.machine.specs.Words.{output_values}
 use Rattle.calls.specs.Calls.{Call, Reset, Write, Read, SetPot, Waiting, Frame, answer_to, after, output_from, run, answers, outputs}
 use Rattle.calls.specs.Asks.{call_of}
 use Rattle.calls.specs.declared.Ask.{Ask}
 use Rattle.repeats.specs.Repeats.{command_count}
 use Rattle.scores.specs.Score.{command_no, silence, times_of, call_after, calls_of, calls_from}
-use Rattle.scores.specs.Sound.{SAMPLE_BYTES, sample_bytes, sound_of}
+use Rattle.scores.specs.Sound.{sample_size, sample_bytes, sound_of}
 use Rattle.scores.specs.Playing.{left_from, is_frame, frames_in, refusals, heard_from, heard_at, Makes, Plays}
 use Rattle.scores.specs.declared.Command.{Command}
 use Rattle.scores.proofs.Making.{Long}
@@ -120,7 +120,7 @@ not_heard m Waiting h = refl
 not_heard m (Frame memory out) h = absurd (true≢false h)
 
 -- four bytes of a frame, nothing of another call, and then what is heard of the rest
-pub heard-cons : (m : List ℕ) (c : Call) (cs : List Call) → (is_frame c ≡ true → length (output_from m c) ≡ OUTPUT_VALUES)
+pub heard-cons : (m : List ℕ) (c : Call) (cs : List Call) → (is_frame c ≡ true → length (output_from m c) ≡ output_values)
     → heard_from m (c ∷ cs) ≡ heard_at m c ++ heard_from (after m c) cs
 unfolding heard_from heard_at frames_in outputs sound_of
 heard-cons m c cs whole = by (is_frame c) refl
@@ -132,14 +132,14 @@ heard-cons m c cs whole = by (is_frame c) refl
     by true k =
         let o = output_from m c in
         let e : 1 + frames_in cs ≡ suc (frames_in cs) = omega arith in
-        rw (k, e, take_at o (outputs (after m c) cs) OUTPUT_VALUES (whole k), drop_at o (outputs (after m c) cs) OUTPUT_VALUES (whole k)) refl
+        rw (k, e, take_at o (outputs (after m c) cs) output_values (whole k), drop_at o (outputs (after m c) cs) output_values (whole k)) refl
     by false k = rw (k, not_heard m c k, zero-add) refl
 
-heard_long : (m : List ℕ) (c : Call) → length (heard_at m c) ≡ SAMPLE_BYTES * cond (is_frame c) 1 0
+heard_long : (m : List ℕ) (c : Call) → length (heard_at m c) ≡ sample_size * cond (is_frame c) 1 0
 unfolding heard_at sample_bytes little_bytes
 heard_long m c = by (is_frame c) refl
   where
-    by : (b : Bool) → is_frame c ≡ b → length (heard_at m c) ≡ SAMPLE_BYTES * cond (is_frame c) 1 0
+    by : (b : Bool) → is_frame c ≡ b → length (heard_at m c) ≡ sample_size * cond (is_frame c) 1 0
     by true k = rw k refl
     by false k = rw k refl
 
@@ -154,8 +154,8 @@ pub record Going (room : ℕ) (all : List Call) (m₀ sound₀ : List ℕ) (cs :
   pub leaves : run m₀ (take room all) ≡ run m (take (room - calls) cs)
   pub counts : frames_in (take room all) ≡ frames + frames_in (take (room - calls) cs)
   pub refuses : refusals (answers m₀ (take room all)) ≡ refused + refusals (answers m (take (room - calls) cs))
-  pub hears : heard_from m₀ (take room all) ≡ take (SAMPLE_BYTES * frames) sound ++ heard_from m (take (room - calls) cs)
-  pub stays : drop (SAMPLE_BYTES * frames) sound ≡ drop (SAMPLE_BYTES * frames) sound₀
+  pub hears : heard_from m₀ (take room all) ≡ take (sample_size * frames) sound ++ heard_from m (take (room - calls) cs)
+  pub stays : drop (sample_size * frames) sound ≡ drop (sample_size * frames) sound₀
   pub goes : drop room all ≡ drop (room - calls) cs
   pub long : length sound ≡ length sound₀
   pub frames_few : frames ≤ calls
@@ -180,8 +180,8 @@ begins room all m sound =
 
 -- one call more
 module _ {room : ℕ} {all : List Call} {m₀ sound₀ : List ℕ} {c : Call} {cs : List Call} {m sound : List ℕ} {calls frames refused : ℕ}
-    (g : Going room all m₀ sound₀ (c ∷ cs) m sound calls frames refused) (h : calls < room) (fits : SAMPLE_BYTES * room ≤ length sound₀)
-    (w : Long c) {answer : Answer} {later heard : List ℕ} (p : Makes m c sound (SAMPLE_BYTES * frames) answer later heard) where
+    (g : Going room all m₀ sound₀ (c ∷ cs) m sound calls frames refused) (h : calls < room) (fits : sample_size * room ≤ length sound₀)
+    (w : Long c) {answer : Answer} {later heard : List ℕ} (p : Makes m c sound (sample_size * frames) answer later heard) where
   xs : List Call
   xs = take (room - (calls + 1)) cs
 
@@ -198,39 +198,39 @@ module _ {room : ℕ} {all : List Call} {m₀ sound₀ : List ℕ} {c : Call} {c
   abbrev refusal : ℕ
   refusal = cond (is_done answer) 0 1
 
-  long : length (heard_at m c) ≡ SAMPLE_BYTES * one
+  long : length (heard_at m c) ≡ sample_size * one
   long = heard_long m c
 
-  room_for : SAMPLE_BYTES * frames + length (heard_at m c) ≤ length sound
+  room_for : sample_size * frames + length (heard_at m c) ≤ length sound
   room_for = rw (long, g.long) (omega (arith, (one_at_most (is_frame c)).0, g.frames_few))
 
-  so_far : length (take (SAMPLE_BYTES * frames) sound ++ heard_at m c) ≡ SAMPLE_BYTES * (frames + one)
+  so_far : length (take (sample_size * frames) sound ++ heard_at m c) ≡ sample_size * (frames + one)
   so_far =
-      length-append (take (SAMPLE_BYTES * frames) sound) (heard_at m c)
-      ∙ rw (length-take-le (SAMPLE_BYTES * frames) sound (omega (arith, room_for)), long) (omega arith)
+      length-append (take (sample_size * frames) sound) (heard_at m c)
+      ∙ rw (length-take-le (sample_size * frames) sound (omega (arith, room_for)), long) (omega arith)
 
-  joined : heard ≡ (take (SAMPLE_BYTES * frames) sound ++ heard_at m c) ++ drop (SAMPLE_BYTES * frames + length (heard_at m c)) sound
-  joined = p.hears ∙ sym (append_assoc (take (SAMPLE_BYTES * frames) sound) (heard_at m c) (drop (SAMPLE_BYTES * frames + length (heard_at m c)) sound))
+  joined : heard ≡ (take (sample_size * frames) sound ++ heard_at m c) ++ drop (sample_size * frames + length (heard_at m c)) sound
+  joined = p.hears ∙ sym (append_assoc (take (sample_size * frames) sound) (heard_at m c) (drop (sample_size * frames + length (heard_at m c)) sound))
 
-  heard-part : take (SAMPLE_BYTES * (frames + one)) heard ≡ take (SAMPLE_BYTES * frames) sound ++ heard_at m c
+  heard-part : take (sample_size * (frames + one)) heard ≡ take (sample_size * frames) sound ++ heard_at m c
   heard-part =
       rw joined
-      (take_at (take (SAMPLE_BYTES * frames) sound ++ heard_at m c) (drop (SAMPLE_BYTES * frames + length (heard_at m c)) sound)
-      (SAMPLE_BYTES * (frames + one)) so_far)
+      (take_at (take (sample_size * frames) sound ++ heard_at m c) (drop (sample_size * frames + length (heard_at m c)) sound)
+      (sample_size * (frames + one)) so_far)
 
-  after-part : drop (SAMPLE_BYTES * (frames + one)) heard ≡ drop (SAMPLE_BYTES * frames + length (heard_at m c)) sound
+  after-part : drop (sample_size * (frames + one)) heard ≡ drop (sample_size * frames + length (heard_at m c)) sound
   after-part =
       rw joined
-      (drop_at (take (SAMPLE_BYTES * frames) sound ++ heard_at m c) (drop (SAMPLE_BYTES * frames + length (heard_at m c)) sound)
-      (SAMPLE_BYTES * (frames + one)) so_far)
+      (drop_at (take (sample_size * frames) sound ++ heard_at m c) (drop (sample_size * frames + length (heard_at m c)) sound)
+      (sample_size * (frames + one)) so_far)
 
-  rest_part : drop (SAMPLE_BYTES * (frames + one)) heard ≡ drop (SAMPLE_BYTES * (frames + one)) sound₀
+  rest_part : drop (sample_size * (frames + one)) heard ≡ drop (sample_size * (frames + one)) sound₀
   rest_part =
-      let e : SAMPLE_BYTES * (frames + one) ≡ SAMPLE_BYTES * frames + SAMPLE_BYTES * one = omega arith in
-      let d : drop (SAMPLE_BYTES * frames + SAMPLE_BYTES * one) sound ≡ drop (SAMPLE_BYTES * frames + SAMPLE_BYTES * one) sound₀ =
-      sym (drop-drop (SAMPLE_BYTES * one) (SAMPLE_BYTES * frames) sound)
-      ∙ ap (drop (SAMPLE_BYTES * one)) g.stays
-      ∙ drop-drop (SAMPLE_BYTES * one) (SAMPLE_BYTES * frames) sound₀ in
+      let e : sample_size * (frames + one) ≡ sample_size * frames + sample_size * one = omega arith in
+      let d : drop (sample_size * frames + sample_size * one) sound ≡ drop (sample_size * frames + sample_size * one) sound₀ =
+      sym (drop-drop (sample_size * one) (sample_size * frames) sound)
+      ∙ ap (drop (sample_size * one)) g.stays
+      ∙ drop-drop (sample_size * one) (sample_size * frames) sound₀ in
       after-part ∙ rw (long, e) d
 
   pub next : Going room all m₀ sound₀ cs later heard (calls + 1) (frames + one) (refused + refusal)
@@ -239,10 +239,10 @@ module _ {room : ℕ} {all : List Call} {m₀ sound₀ : List ℕ} {c : Call} {c
       let u : frames_in (take room all) ≡ frames + (cond (is_frame c) 1 0 + frames_in xs) = g.counts ∙ ap (λ (l : List Call). frames + frames_in l) cut in
       let v : refusals (answers m₀ (take room all)) ≡ refused + (cond (is_done (answer_to m c)) 0 1 + refusals (answers (after m c) xs)) =
       g.refuses ∙ ap (λ (l : List Call). refused + refusals (answers m l)) cut in
-      let y : heard_from m₀ (take room all) ≡ (take (SAMPLE_BYTES * frames) sound ++ heard_at m c) ++ heard_from (after m c) xs =
-      g.hears ∙ ap (λ (l : List Call). take (SAMPLE_BYTES * frames) sound ++ heard_from m l) cut
-      ∙ ap (λ (l : List ℕ). take (SAMPLE_BYTES * frames) sound ++ l) (heard-cons m c xs (w m))
-      ∙ sym (append_assoc (take (SAMPLE_BYTES * frames) sound) (heard_at m c) (heard_from (after m c) xs)) in
+      let y : heard_from m₀ (take room all) ≡ (take (sample_size * frames) sound ++ heard_at m c) ++ heard_from (after m c) xs =
+      g.hears ∙ ap (λ (l : List Call). take (sample_size * frames) sound ++ heard_from m l) cut
+      ∙ ap (λ (l : List ℕ). take (sample_size * frames) sound ++ l) (heard-cons m c xs (w m))
+      ∙ sym (append_assoc (take (sample_size * frames) sound) (heard_at m c) (heard_from (after m c) xs)) in
       let z : drop (room - calls) (c ∷ cs) ≡ drop (room - (calls + 1)) cs =
       (let e : room - calls ≡ suc (room - (calls + 1)) = omega arith in rw e refl) in
       record {
@@ -252,7 +252,7 @@ module _ {room : ℕ} {all : List Call} {m₀ sound₀ : List ℕ} {c : Call} {c
         hears = rw (heard-part, p.leaves) y;
         stays = rest_part;
         goes = g.goes ∙ z;
-        long = rw p.hears (with_length sound (SAMPLE_BYTES * frames) (heard_at m c) room_for ∙ g.long);
+        long = rw p.hears (with_length sound (sample_size * frames) (heard_at m c) room_for ∙ g.long);
         frames_few = omega (arith, (one_at_most (is_frame c)).0, g.frames_few);
         refused_few = omega (arith, (one_at_most (is_done answer)).1, g.refused_few);
         sum = omega (arith, g.sum);
@@ -279,24 +279,24 @@ module _ {room : ℕ} {all : List Call} {m₀ sound₀ : List ℕ} {cs : List Ca
   unfolding refusals answers
   refuses_end = sym (g.refuses ∙ ap (λ (l : List Call). refused + refusals (answers m l)) none ∙ add-zero refused)
 
-  hears_end : take (SAMPLE_BYTES * frames) sound ≡ heard_from m₀ (take room all)
+  hears_end : take (sample_size * frames) sound ≡ heard_from m₀ (take room all)
   unfolding heard_from frames_in outputs sound_of
   hears_end =
       sym
       (g.hears
-      ∙ ap (λ (l : List Call). take (SAMPLE_BYTES * frames) sound ++ heard_from m l) none
-      ∙ append-nil (take (SAMPLE_BYTES * frames) sound))
+      ∙ ap (λ (l : List Call). take (sample_size * frames) sound ++ heard_from m l) none
+      ∙ append-nil (take (sample_size * frames) sound))
 
   goes_end : cs ≡ drop room all
   goes_end = sym (g.goes ∙ rest)
 
 -- and that is what playing promises
 pub ended : {memory commands m₀ sound₀ m sound : List ℕ} {k₀ made₀ k made calls frames refused : ℕ}
-    → Going (length sound₀ / SAMPLE_BYTES) (left_from memory commands k₀ made₀) m₀ sound₀ (left_from memory commands k made) m sound calls frames refused
-    → calls ≤ length sound₀ / SAMPLE_BYTES → made ≤ times_of (command_no commands k) → (calls < length sound₀ / SAMPLE_BYTES → command_count commands ≤ k)
+    → Going (length sound₀ / sample_size) (left_from memory commands k₀ made₀) m₀ sound₀ (left_from memory commands k made) m sound calls frames refused
+    → calls ≤ length sound₀ / sample_size → made ≤ times_of (command_no commands k) → (calls < length sound₀ / sample_size → command_count commands ≤ k)
     → Plays m₀ memory commands k₀ made₀ sound₀ (record { position = record { command = k; made = made }; frames = frames; refused = refused }) m sound
 ended {memory} {commands} {sound₀} {k} {made} {calls} g few within stop =
-    let room = length sound₀ / SAMPLE_BYTES in
+    let room = length sound₀ / sample_size in
     let left = left_from memory commands k made in
     let o = over room calls left (λ h. left_none memory commands k made (stop h)) in
     record {

@@ -14,13 +14,13 @@ use lib.ListN.{length, take, drop, replicate, take-append-drop}
 use Rattle.numbers.specs.Sum.{sum}
 use Rattle.numbers.proofs.Sum.{sum_ext, sum_first}
 use Rattle.layout.specs.Bytes.{little_bytes}
-use Rattle.machine.specs.Words.{OUTPUT_VALUES}
+use Rattle.machine.specs.Words.{output_values}
 use Rattle.calls.specs.Calls.{Call, after, run, outputs}
 use Rattle.calls.specs.Asks.{call_of}
 use Rattle.calls.specs.declared.Ask.{Ask}
 use Rattle.repeats.specs.Repeats.{command_count}
 use Rattle.scores.specs.Score.{silence, command_no, calls_of, calls_from, commands_of, all_calls, score_calls, frames_of, all_frames, score_frames}
-use Rattle.scores.specs.Sound.{SAMPLE_BYTES, sample_bytes, sound_of}
+use Rattle.scores.specs.Sound.{sample_size, sample_bytes, sound_of}
 use Rattle.scores.specs.Playing.{left_from, is_frame, frames_in, heard_from, first_record, score_sound, heard_at, Plays, Part, PlaysAll, parts_heard}
 use Rattle.scores.specs.declared.Command.{Command}
 use Rattle.scores.specs.declared.Played.{Played}
@@ -91,8 +91,8 @@ in_parts m memory commands k made n =
 module _ {m memory commands : List ℕ} {k made : ℕ} {sound : List ℕ} {r : Played} {later heard : List ℕ}
     (p : Plays m memory commands k made sound r later heard) where
   pub part-heard : heard_from m (left_from memory commands k made)
-      ≡ take (SAMPLE_BYTES * r.frames) heard ++ heard_from later (left_from memory commands r.position.command r.position.made)
-  part-heard = in_parts m memory commands k made (length sound / SAMPLE_BYTES) ∙ rw (p.hears, p.leaves, p.goes) refl
+      ≡ take (sample_size * r.frames) heard ++ heard_from later (left_from memory commands r.position.command r.position.made)
+  part-heard = in_parts m memory commands k made (length sound / sample_size) ∙ rw (p.hears, p.leaves, p.goes) refl
 
   -- two outcomes are equal, but that the place in the score may have another name: the calls that are left are the same
   pub one_part : {s : Played} {later' heard' : List ℕ} → Plays m memory commands k made sound s later' heard'
@@ -100,12 +100,12 @@ module _ {m memory commands : List ℕ} {k made : ℕ} {sound : List ℕ} {r : P
       × (left_from memory commands r.position.command r.position.made ≡ left_from memory commands s.position.command s.position.made)
   one_part {s} {heard'} q =
       let f : r.frames ≡ s.frames = p.counts ∙ sym q.counts in
-      let t : take (SAMPLE_BYTES * r.frames) heard ≡ take (SAMPLE_BYTES * r.frames) heard' =
-      p.hears ∙ sym q.hears ∙ ap (λ (n : ℕ). take (SAMPLE_BYTES * n) heard') (sym f) in
-      let d : drop (SAMPLE_BYTES * r.frames) heard ≡ drop (SAMPLE_BYTES * r.frames) heard' =
-      p.stays ∙ ap (λ (n : ℕ). drop (SAMPLE_BYTES * n) sound) f ∙ sym q.stays ∙ ap (λ (n : ℕ). drop (SAMPLE_BYTES * n) heard') (sym f) in (
+      let t : take (sample_size * r.frames) heard ≡ take (sample_size * r.frames) heard' =
+      p.hears ∙ sym q.hears ∙ ap (λ (n : ℕ). take (sample_size * n) heard') (sym f) in
+      let d : drop (sample_size * r.frames) heard ≡ drop (sample_size * r.frames) heard' =
+      p.stays ∙ ap (λ (n : ℕ). drop (sample_size * n) sound) f ∙ sym q.stays ∙ ap (λ (n : ℕ). drop (sample_size * n) heard') (sym f) in (
         p.leaves ∙ sym q.leaves,
-        sym (take-append-drop (SAMPLE_BYTES * r.frames) heard) ∙ (λ i. t i ++ d i) ∙ take-append-drop (SAMPLE_BYTES * r.frames) heard',
+        sym (take-append-drop (sample_size * r.frames) heard) ∙ (λ i. t i ++ d i) ∙ take-append-drop (sample_size * r.frames) heard',
         f,
         p.refuses ∙ sym q.refuses,
         p.goes ∙ sym q.goes,
@@ -117,7 +117,7 @@ parts_heard_lem : (ps : List Part) (m memory commands : List ℕ) (k made : ℕ)
 unfolding parts_heard
 parts_heard_lem [] m memory commands k made none = sym (ap (heard_from m) (left_none memory commands k made none) ∙ none_heard m)
 parts_heard_lem (p ∷ ps) m memory commands k made plays =
-    ap (λ (l : List ℕ). take (SAMPLE_BYTES * p.played.frames) p.heard ++ l)
+    ap (λ (l : List ℕ). take (sample_size * p.played.frames) p.heard ++ l)
     (parts_heard_lem ps p.later memory commands p.played.position.command p.played.position.made plays.1)
     ∙ sym (part-heard plays.0)
 
@@ -129,14 +129,14 @@ score_heard ps memory score plays =
     ∙ ap (λ (n : ℕ). heard_from first_record (calls_from memory (commands_of score) n 0)) e
 
 -- four bytes a frame
-sound_bytes : (n : ℕ) (values : List ℤ) → length (sound_of n values) ≡ SAMPLE_BYTES * n
+sound_bytes : (n : ℕ) (values : List ℤ) → length (sound_of n values) ≡ sample_size * n
 unfolding sound_of sample_bytes little_bytes
 sound_bytes zero values = refl
 sound_bytes (suc n) values =
-    let e : SAMPLE_BYTES * suc n ≡ suc (suc (suc (suc (SAMPLE_BYTES * n)))) = omega arith in
-    rw e (ap (λ (k : ℕ). suc (suc (suc (suc k)))) (sound_bytes n (drop OUTPUT_VALUES values)))
+    let e : sample_size * suc n ≡ suc (suc (suc (suc (sample_size * n)))) = omega arith in
+    rw e (ap (λ (k : ℕ). suc (suc (suc (suc k)))) (sound_bytes n (drop output_values values)))
 
-heard_bytes : (m : List ℕ) (cs : List Call) → length (heard_from m cs) ≡ SAMPLE_BYTES * frames_in cs
+heard_bytes : (m : List ℕ) (cs : List Call) → length (heard_from m cs) ≡ sample_size * frames_in cs
 unfolding heard_from
 heard_bytes m cs = sound_bytes (frames_in cs) (outputs m cs)
 
@@ -183,5 +183,5 @@ all_counted memory commands =
 pub frames_counted : (memory score : List ℕ) → score_frames score ≡ frames_in (score_calls memory score)
 frames_counted memory score = all_counted memory (commands_of score)
 
-pub score_bytes : (memory score : List ℕ) → length (score_sound memory score) ≡ SAMPLE_BYTES * score_frames score
-score_bytes memory score = heard_bytes first_record (score_calls memory score) ∙ ap (λ (n : ℕ). SAMPLE_BYTES * n) (sym (frames_counted memory score))
+pub score_bytes : (memory score : List ℕ) → length (score_sound memory score) ≡ sample_size * score_frames score
+score_bytes memory score = heard_bytes first_record (score_calls memory score) ∙ ap (λ (n : ℕ). sample_size * n) (sym (frames_counted memory score))

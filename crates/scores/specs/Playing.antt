@@ -4,11 +4,11 @@
 use Rattle.std.specs.Prelude.{ℕ, ◌+◌, ◌*◌, ◌/◌, ◌-◌, ◌≤◌, ◌<◌, ◌≡◌, Bool, true, false, if◌then◌else◌, List, [], ◌∷◌, ◌++◌, length, take, drop, replicate}
 use Rattle.layout.specs.Parts.{with_part}
 use Rattle.answer.specs.Answer.{Answer, is_done}
-use Rattle.machine.specs.Words.{RECORD_WORDS}
+use Rattle.machine.specs.Words.{record_words}
 use Rattle.calls.specs.Calls.{Call, Reset, Write, Read, SetPot, Waiting, Frame, answer_to, after, output_from, run, answers, outputs}
 use Rattle.repeats.specs.Repeats.{command_count}
 use Rattle.scores.specs.Score.{calls_from, score_calls, command_no, times_of}
-use Rattle.scores.specs.Sound.{SAMPLE_BYTES, sample_bytes, sound_of}
+use Rattle.scores.specs.Sound.{sample_size, sample_bytes, sound_of}
 use Rattle.scores.specs.declared.Played.{Played}
 
 -- the calls that are left at command k, where so many of its own are made
@@ -39,7 +39,7 @@ heard_from m cs = sound_of (frames_in cs) (outputs m cs)
 
 -- The record that a score is played on is not valid: what is asked before a reset is refused.
 abbrev pub first_record : List ℕ
-first_record = replicate RECORD_WORDS 4294967295
+first_record = replicate record_words 4294967295
 
 -- what is heard of a score, whose words of sample memory these are
 abbrev pub score_sound : List ℕ → List ℕ → List ℕ
@@ -60,18 +60,18 @@ pub record Makes (m : List ℕ) (c : Call) (sound : List ℕ) (at : ℕ) (answer
 -- ---- as many calls as the sound has room for, from a place of the score on; fewer only where no command is left
 
 abbrev pub next_calls : List ℕ → List ℕ → ℕ → ℕ → List ℕ → List Call
-next_calls memory commands k made sound = take (length sound / SAMPLE_BYTES) (left_from memory commands k made)
+next_calls memory commands k made sound = take (length sound / sample_size) (left_from memory commands k made)
 
 pub record Plays (m memory commands : List ℕ) (k made : ℕ) (sound : List ℕ) (r : Played) (later heard : List ℕ) : Type 0 where
   pub leaves : later ≡ run m (next_calls memory commands k made sound)
   pub counts : r.frames ≡ frames_in (next_calls memory commands k made sound)
   pub refuses : r.refused ≡ refusals (answers m (next_calls memory commands k made sound))
-  pub hears : take (SAMPLE_BYTES * r.frames) heard ≡ heard_from m (next_calls memory commands k made sound)
-  pub stays : drop (SAMPLE_BYTES * r.frames) heard ≡ drop (SAMPLE_BYTES * r.frames) sound
-  pub goes : left_from memory commands r.position.command r.position.made ≡ drop (length sound / SAMPLE_BYTES) (left_from memory commands k made)
-  pub fits : SAMPLE_BYTES * r.frames ≤ length sound
+  pub hears : take (sample_size * r.frames) heard ≡ heard_from m (next_calls memory commands k made sound)
+  pub stays : drop (sample_size * r.frames) heard ≡ drop (sample_size * r.frames) sound
+  pub goes : left_from memory commands r.position.command r.position.made ≡ drop (length sound / sample_size) (left_from memory commands k made)
+  pub fits : sample_size * r.frames ≤ length sound
   pub within : r.position.made ≤ times_of (command_no commands r.position.command)
-  pub ends : r.position.command < command_count commands → length sound / SAMPLE_BYTES ≤ length (left_from memory commands k made)
+  pub ends : r.position.command < command_count commands → length sound / sample_size ≤ length (left_from memory commands k made)
 
 -- ---- a score in parts, one after the other, until no command is left
 
@@ -89,4 +89,4 @@ PlaysAll m memory commands k made (p ∷ ps) =
 
 unfoldable pub parts_heard : List Part → List ℕ
 parts_heard [] = []
-parts_heard (p ∷ ps) = take (SAMPLE_BYTES * p.played.frames) p.heard ++ parts_heard ps
+parts_heard (p ∷ ps) = take (sample_size * p.played.frames) p.heard ++ parts_heard ps

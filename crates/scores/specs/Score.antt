@@ -4,8 +4,8 @@
 use Rattle.std.specs.Prelude.{ℕ, zero, suc, ◌*◌, ◌%◌, ◌-◌, ◌<◌, ◌≡◌, Bool, true, false, if◌then◌else◌, not, ◌&&◌, List, [], ◌∷◌, ◌++◌, ◌==◌, nat_lt, ℤ, pos, length, slice_index, drop, replicate, Option, None, Some, Result, Ok, Err}
 use Rattle.numbers.specs.Sum.{sum}
 use Rattle.layout.specs.Bytes.{big2_at}
-use Rattle.repeats.specs.Repeats.{COMMAND_BYTES, command_count, kind_at, number_at, byte_at, REPEAT, in_full}
-use Rattle.machine.specs.Words.{OUTPUT_VALUES}
+use Rattle.repeats.specs.Repeats.{command_bytes, command_count, kind_at, number_at, byte_at, repeat_kind, in_full}
+use Rattle.machine.specs.Words.{output_values}
 use Rattle.calls.specs.Calls.{Call}
 use Rattle.calls.specs.Asks.{call_of}
 use Rattle.calls.specs.declared.Ask.{Ask}
@@ -15,8 +15,8 @@ use Rattle.scores.specs.declared.Command.TheVariants.{Once, Frames, Nothing}
 use Rattle.scores.specs.declared.ScoreError.{ScoreError}
 use Rattle.scores.specs.declared.ScoreError.TheVariants.{TooLong, NoMemory, Cut, TooManyCommands, Unknown, NotThere, TooManyFrames}
 
-abbrev pub MEMORY_BYTES : ℕ
-MEMORY_BYTES = 8192
+abbrev pub memory_bytes : ℕ
+memory_bytes = 8192
 
 -- the first n words of the memory are the score's bytes by twos, the high one first
 abbrev pub Filled : ℕ → List ℕ → List ℕ → Type 0
@@ -24,7 +24,7 @@ Filled n score memory = (k : ℕ) → k < n → slice_index memory k ≡ big2_at
 
 -- what stands after them, in full
 abbrev pub commands_of : List ℕ → List ℕ
-commands_of score = in_full (drop MEMORY_BYTES score)
+commands_of score = in_full (drop memory_bytes score)
 
 -- ---- a command
 
@@ -56,13 +56,13 @@ abbrev pub command_at : List ℕ → ℕ → Command
 command_at xs i = command_of (kind_at xs i) (number_at xs i) (byte_at xs i)
 
 abbrev pub command_no : List ℕ → ℕ → Command
-command_no xs k = command_at xs (COMMAND_BYTES * k)
+command_no xs k = command_at xs (command_bytes * k)
 
 -- ---- the calls
 
 -- Every frame is lent an output of zeros, so that one that is refused is silent.
 abbrev pub silence : List ℤ
-silence = replicate OUTPUT_VALUES (pos 0)
+silence = replicate output_values (pos 0)
 
 -- a command's calls
 unfoldable pub calls_of : List ℕ → Command → List Call
@@ -112,25 +112,25 @@ Verdict = Result (Unit {0}) ScoreError
 abbrev pub Good : Verdict
 Good = Ok tt
 
-abbrev pub MOST_BYTES : ℕ
-MOST_BYTES = 65536
+abbrev pub most_bytes : ℕ
+most_bytes = 65536
 
 -- of 65,536 commands
-abbrev pub MOST_FULL_BYTES : ℕ
-MOST_FULL_BYTES = 262144
+abbrev pub most_full_bytes : ℕ
+most_full_bytes = 262144
 
--- kinds 0 to 6 are calls, and 7 is `REPEAT`
-abbrev pub KINDS : ℕ
-KINDS = 8
+-- kinds 0 to 6 are calls, and 7 is `repeat_kind`
+abbrev pub kind_count : ℕ
+kind_count = 8
 
 -- four bytes each, and 36 that a WAVE file's own number counts beside them, are below 2 ^ 32
-abbrev pub MOST_FRAMES : ℕ
-MOST_FRAMES = 1073741814
+abbrev pub most_frames : ℕ
+most_frames = 1073741814
 
 -- the first n commands are of kinds below this one, and all are
 unfoldable pub first_below : ℕ → List ℕ → ℕ → Bool
 first_below kind commands zero = true
-first_below kind commands (suc n) = first_below kind commands n && nat_lt (kind_at commands (COMMAND_BYTES * n)) kind
+first_below kind commands (suc n) = first_below kind commands n && nat_lt (kind_at commands (command_bytes * n)) kind
 
 abbrev pub all_below : ℕ → List ℕ → Bool
 all_below kind commands = first_below kind commands (command_count commands)
@@ -138,16 +138,16 @@ all_below kind commands = first_below kind commands (command_count commands)
 -- of commands in full: the first of these that holds; a repeat is still there where its commands are not
 unfoldable pub commands_verdict : List ℕ → Verdict
 commands_verdict commands =
-    if not (all_below KINDS commands) then Err Unknown
-    else if not (all_below REPEAT commands) then Err NotThere
-    else if nat_lt MOST_FRAMES (all_frames commands) then Err TooManyFrames
+    if not (all_below kind_count commands) then Err Unknown
+    else if not (all_below repeat_kind commands) then Err NotThere
+    else if nat_lt most_frames (all_frames commands) then Err TooManyFrames
     else Good
 
 -- of a score
 unfoldable pub verdict_of : List ℕ → Verdict
 verdict_of score =
-    if nat_lt MOST_BYTES (length score) then Err TooLong
-    else if nat_lt (length score) MEMORY_BYTES then Err NoMemory
-    else if not ((length score - MEMORY_BYTES) % COMMAND_BYTES == 0) then Err Cut
-    else if nat_lt MOST_FULL_BYTES (length (commands_of score)) then Err TooManyCommands
+    if nat_lt most_bytes (length score) then Err TooLong
+    else if nat_lt (length score) memory_bytes then Err NoMemory
+    else if not ((length score - memory_bytes) % command_bytes == 0) then Err Cut
+    else if nat_lt most_full_bytes (length (commands_of score)) then Err TooManyCommands
     else commands_verdict (commands_of score)

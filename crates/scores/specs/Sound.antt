@@ -3,7 +3,7 @@
 use Rattle.std.specs.Prelude.{ℕ, zero, suc, ◌+◌, ◌*◌, max, List, [], ◌++◌, ℤ, pos, nat_abs, ◌+ℤ◌, slice_index_or, take, drop}
 use Rattle.numbers.specs.Numbers.{floor_div, minus, held, word, signed}
 use Rattle.layout.specs.Bytes.{little_bytes, little2_at}
-use Rattle.machine.specs.Words.{OUTPUT_VALUES}
+use Rattle.machine.specs.Words.{output_values}
 
 -- the sum of the six channels on a side, which is 0 for the left and 1 for the right
 unfoldable pub side_of : ℕ → List ℤ → ℤ
@@ -16,8 +16,8 @@ unfoldable pub heard_of : ℤ → ℤ
 heard_of sum = held (minus 32768) (pos 32767) (floor_div sum 16)
 
 -- left, then right, two bytes each, the low one first
-abbrev pub SAMPLE_BYTES : ℕ
-SAMPLE_BYTES = 4
+abbrev pub sample_size : ℕ
+sample_size = 4
 
 unfoldable pub sample_bytes : List ℤ → List ℕ
 sample_bytes values = little_bytes 2 (word 16 (heard_of (side_of 0 values))) ++ little_bytes 2 (word 16 (heard_of (side_of 1 values)))
@@ -25,7 +25,7 @@ sample_bytes values = little_bytes 2 (word 16 (heard_of (side_of 0 values))) ++ 
 -- of n frames, whose values follow each other
 unfoldable pub sound_of : ℕ → List ℤ → List ℕ
 sound_of zero values = []
-sound_of (suc n) values = sample_bytes (take OUTPUT_VALUES values) ++ sound_of n (drop OUTPUT_VALUES values)
+sound_of (suc n) values = sample_bytes (take output_values values) ++ sound_of n (drop output_values values)
 
 -- the loudest of the first n samples, or what was the loudest before
 unfoldable pub loudest_of : List ℕ → ℕ → ℕ → ℕ

@@ -16,9 +16,9 @@ ghost use Rattle.numbers.specs.Numbers.{word};
 ghost use Rattle.answer.specs.Answer.{answer_of};
 ghost use Rattle.calls.specs.Asks.{call_of};
 ghost use Rattle.layout.specs.Parts.{with_part};
-ghost use Rattle.scores.specs.Score.{MOST_FULL_BYTES, Filled, commands_of, command_at, command_no, times_of, call_after, silence, is_frame_ask, frames_of, all_frames};
+ghost use Rattle.scores.specs.Score.{most_full_bytes, Filled, commands_of, command_at, command_no, times_of, call_after, silence, is_frame_ask, frames_of, all_frames};
 ghost use Rattle.scores.specs.Score.{Good, all_below, commands_verdict, verdict_of};
-ghost use Rattle.scores.specs.Sound.{SAMPLE_BYTES, heard_of, sample_bytes, loudest_of};
+ghost use Rattle.scores.specs.Sound.{sample_size, heard_of, sample_bytes, loudest_of};
 ghost use Rattle.scores.specs.Playing.{Makes, Plays};
 
 use answer::Refusal;
@@ -132,7 +132,7 @@ pub fn fill(memory: &mut [u16], score: &[u8])
 
 /// Of all commands.
 pub fn frames_of(commands: &[u8]) -> u64
-    requires { length commands.now ≤ MOST_FULL_BYTES }
+    requires { length commands.now ≤ most_full_bytes }
     ensures { result ≡ all_frames commands.now }
 {
     let (whole, _) = commands.as_chunks::<COMMAND_BYTES>();
@@ -169,7 +169,7 @@ pub enum ScoreError {
 // The room is lent, and no `Vec` handed back: so it needs no allocator.
 #[tactic(auto, using(crate::proofs::Judged::too_long, crate::proofs::Judged::no_memory, crate::proofs::Judged::cut, crate::proofs::Judged::too_many))]
 pub fn judge(score: &[u8], full: &mut [u8]) -> Result<(), ScoreError>
-    requires { length full.old ≡ MOST_FULL_BYTES }
+    requires { length full.old ≡ most_full_bytes }
     ensures value { result ≡ verdict_of score.now }
     ensures full_after { verdict_of score.now ≡ Good → full.new ≡ with_part full.old 0 (commands_of score.now) }
 {
@@ -192,7 +192,7 @@ pub fn judge(score: &[u8], full: &mut [u8]) -> Result<(), ScoreError>
 
 #[tactic(auto, unfolding(crate::specs::Score::commands_verdict))]
 fn judge_commands(commands: &[u8]) -> Result<(), ScoreError>
-    requires { length commands.now ≤ MOST_FULL_BYTES }
+    requires { length commands.now ≤ most_full_bytes }
     ensures { result ≡ commands_verdict commands.now }
 {
     if !all_below(KINDS, commands) {
@@ -262,7 +262,7 @@ fn make(
     sound: &mut [u8],
     at: usize,
 ) -> Result<u32, Refusal>
-    requires { at + SAMPLE_BYTES ≤ length sound.old }
+    requires { at + sample_size ≤ length sound.old }
     ensures { Makes m.old (call_of ask memory.now silence) sound.old at (answer_of result) m.new sound.new }
 {
     let mut out = [0; machine::OUTPUT_VALUES];

@@ -11,9 +11,9 @@ use lib.Dec.{leb, ltb}
 use lib.ListN.{length, replicate}
 use Rattle.numbers.proofs.Tests.{neither}
 use Rattle.answer.specs.Answer.{is_done}
-use Rattle.control.specs.Control.{bit_of, flag_of, with_bit, runs, LEI, LPE, BLE, DIR}
+use Rattle.control.specs.Control.{bit_of, flag_of, with_bit, runs, lei_bit, lpe_bit, ble_bit, dir_bit}
 use Rattle.layout.specs.Bytes.{little, twos}
-use Rattle.sample.specs.Sample.{WHOLE_SAMPLE}
+use Rattle.sample.specs.Sample.{whole_sample}
 use Rattle.chunks.specs.Chunks.{chunks_of, chunk_at, is_whole, before, chunks_from, is_headed, listing, is_unreadable, chunks_in, named}
 use Rattle.wave.specs.Wave.{data_of, count_of, Present, loop_of, first_of, is_once, any_short, is_mono16, is_sampler_short, loop_in, first_sampler_short, first_loop, is_broken}
 use Rattle.wave_in.specs.Registers.{register_at, start_of, end_of, type_bits, loop_bits}
@@ -37,14 +37,14 @@ valid_loop count type first last h =
 
 -- ---- the bits and the period, by the loop's type
 
-mode_of : (type CR : ℕ) → type ≤ 2 → flag_of LPE CR ≡ flag_of LPE (type_bits type) → flag_of BLE CR ≡ flag_of BLE (type_bits type) → (flag_of BLE (type_bits type) ≡ false → flag_of DIR CR ≡ flag_of DIR (type_bits type)) → Mode (kind_of type) CR
+mode_of : (type CR : ℕ) → type ≤ 2 → flag_of lpe_bit CR ≡ flag_of lpe_bit (type_bits type) → flag_of ble_bit CR ≡ flag_of ble_bit (type_bits type) → (flag_of ble_bit (type_bits type) ≡ false → flag_of dir_bit CR ≡ flag_of dir_bit (type_bits type)) → Mode (kind_of type) CR
 unfolding flag_of bit_of with_bit
 mode_of zero CR h l b d = (b, l, d refl)
 mode_of (suc zero) CR h l b d = (b, l)
 mode_of (suc (suc zero)) CR h l b d = (b, l, d refl)
 mode_of (suc (suc (suc type))) CR h l b d = absurd (omega arith)
 
-round_is : (type n : ℕ) (v : Voice) → type ≤ 2 → v.end ≡ v.start + n * WHOLE_SAMPLE → period_of (kind_of type) v ≡ round_samples type n * WHOLE_SAMPLE
+round_is : (type n : ℕ) (v : Voice) → type ≤ 2 → v.end ≡ v.start + n * whole_sample → period_of (kind_of type) v ≡ round_samples type n * whole_sample
 unfolding period_of
 round_is zero n v h e = omega arith
 round_is (suc zero) n v h e = omega arith
@@ -63,12 +63,12 @@ imported_in_tune file memory word r after p h type first last l v g q =
     let s : v.start ≡ register_at word first = g.start ∙ ap (λ (x : Imported). x.start) k in
     let e : v.end ≡ register_at word (last + 1) = g.end ∙ ap (λ (x : Imported). x.end) k in
     let n = loop_samples first last in
-    let w : v.end ≡ v.start + n * WHOLE_SAMPLE = omega arith in
+    let w : v.end ≡ v.start + n * whole_sample = omega arith in
     let b : r.bits ≡ type_bits type = ap (λ (x : Imported). x.bits) k in
     let loops : Loops (kind_of type) v = record {
       running = q.running;
       heeded = q.heeded;
-      mode = mode_of type v.cr i.1 (g.loops ∙ ap (flag_of LPE) b) (g.both_ways ∙ ap (flag_of BLE) b) (λ e. g.direction (ap (flag_of BLE) b ∙ e) ∙ ap (flag_of DIR) b);
+      mode = mode_of type v.cr i.1 (g.loops ∙ ap (flag_of lpe_bit) b) (g.both_ways ∙ ap (flag_of ble_bit) b) (λ e. g.direction (ap (flag_of ble_bit) b ∙ e) ∙ ap (flag_of dir_bit) b);
       from = q.from;
       to = q.to;
       length = omega arith;
@@ -80,8 +80,8 @@ imported_in_tune file memory word r after p h type first last l v g q =
 -- So the note is back at its place when its steps come to whole rounds, each of just as many samples as the loop has: at one sample a turn, after as many
 -- turns.
 pub back_after_rounds : (type n : ℕ) (v : Voice) → Holds type n v → (memory : ℕ → List ℕ) (slow : ℕ → ℕ) (turns rounds : ℕ)
-    → turns * v.fc ≡ rounds * (round_samples type n * WHOLE_SAMPLE)
-    → position_of (kind_of type) (turns_of memory slow turns v) % (round_samples type n * WHOLE_SAMPLE) ≡ position_of (kind_of type) v % (round_samples type n * WHOLE_SAMPLE)
+    → turns * v.fc ≡ rounds * (round_samples type n * whole_sample)
+    → position_of (kind_of type) (turns_of memory slow turns v) % (round_samples type n * whole_sample) ≡ position_of (kind_of type) v % (round_samples type n * whole_sample)
 unfolding turns_of
 back_after_rounds type n v h memory slow turns rounds e =
     rw h.period at (back_again (kind_of type) memory slow turns v (h.in_tune memory slow 0).loops rounds (e ∙ ap (λ (x : ℕ). rounds * x) (sym h.period)))
@@ -98,7 +98,7 @@ answered type = imported (looped type) 20 10
 
 -- a voice at the start of that loop, which moves by a sample a turn; what a loop does not need is 0
 abbrev pub at_start : ℕ → Voice
-at_start CR = voice_of (CR ∷ WHOLE_SAMPLE ∷ replicate 9 0 ++ 20480 ∷ 24576 ∷ 20480 ∷ [])
+at_start CR = voice_of (CR ∷ whole_sample ∷ replicate 9 0 ++ 20480 ∷ 24576 ∷ 20480 ∷ [])
 
 -- for each type of loop: the import is done, its loop is that one, and such a voice gets it and plays it
 pub record Speaks (type CR : ℕ) : Type 0 where
@@ -112,8 +112,8 @@ unfolding runs flag_of bit_of with_bit little twos chunk_at is_whole before chun
 speaks = (by 0 0x08 refl refl refl refl (refl, refl, refl) refl refl, by 1 0x18 refl refl refl refl (refl, refl, refl) refl refl, by 2 0x48 refl refl refl refl (refl, refl, refl) refl refl)
   where
     by : (type CR : ℕ) → is_done (answered type).answer ≡ true → loop_of (looped type) (chunks_of (looped type)) ≡ Present type 0 1 → 20480 ≡ (answered type).start → 24576 ≡ (answered type).end
-        → (flag_of LPE CR ≡ flag_of LPE (answered type).bits) × (flag_of BLE CR ≡ flag_of BLE (answered type).bits) × (flag_of DIR CR ≡ flag_of DIR (answered type).bits)
-        → runs CR ≡ true → flag_of LEI CR ≡ false → Speaks type CR
+        → (flag_of lpe_bit CR ≡ flag_of lpe_bit (answered type).bits) × (flag_of ble_bit CR ≡ flag_of ble_bit (answered type).bits) × (flag_of dir_bit CR ≡ flag_of dir_bit (answered type).bits)
+        → runs CR ≡ true → flag_of lei_bit CR ≡ false → Speaks type CR
     by type CR d l s e f r h = record {
       done = d;
       its_loop = l;

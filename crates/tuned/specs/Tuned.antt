@@ -3,8 +3,8 @@
 -- In order: the loop's samples, and those of one round, by the loop's type; what a voice gets; a voice that plays; the statement. Assumes nothing.
 use Rattle.std.specs.Prelude.{ℕ, ◌+◌, ◌-◌, ◌*◌, ◌≤◌, ◌≡◌, IsTrue, IsFalse, if◌then◌else◌, List, ◌==◌}
 use Rattle.answer.specs.Answer.{is_done}
-use Rattle.control.specs.Control.{flag_of, runs, LEI, LPE, BLE, DIR}
-use Rattle.sample.specs.Sample.{WHOLE_SAMPLE}
+use Rattle.control.specs.Control.{flag_of, runs, lei_bit, lpe_bit, ble_bit, dir_bit}
+use Rattle.sample.specs.Sample.{whole_sample}
 use Rattle.chunks.specs.Chunks.{chunks_of}
 use Rattle.wave.specs.Wave.{Present, loop_of}
 use Rattle.wave_in.specs.Import.{Imported, Imports}
@@ -27,21 +27,21 @@ round_samples type n = if type == 1 then 2 * n else n
 pub record Gets (r : Imported) (v : Voice) : Type 0 where
   pub start : v.start ≡ r.start
   pub end : v.end ≡ r.end
-  pub loops : flag_of LPE v.cr ≡ flag_of LPE r.bits
-  pub both_ways : flag_of BLE v.cr ≡ flag_of BLE r.bits
-  pub direction : IsFalse (flag_of BLE r.bits) → flag_of DIR v.cr ≡ flag_of DIR r.bits
+  pub loops : flag_of lpe_bit v.cr ≡ flag_of lpe_bit r.bits
+  pub both_ways : flag_of ble_bit v.cr ≡ flag_of ble_bit r.bits
+  pub direction : IsFalse (flag_of ble_bit r.bits) → flag_of dir_bit v.cr ≡ flag_of dir_bit r.bits
 
 -- It runs, heeds its loop points and is within the loop, of n samples, and no step is longer than the loop.
 pub record Plays (n : ℕ) (v : Voice) : Type 0 where
   pub running : IsTrue (runs v.cr)
-  pub heeded : IsFalse (flag_of LEI v.cr)
+  pub heeded : IsFalse (flag_of lei_bit v.cr)
   pub from : v.start ≤ v.accum
   pub to : v.accum ≤ v.end
-  pub pace : v.fc ≤ n * WHOLE_SAMPLE
+  pub pace : v.fc ≤ n * whole_sample
 
 -- Its period is that of one round, in whole samples, and it is in tune after any number of turns, whatever the memory holds in each.
 pub record Holds (type n : ℕ) (v : Voice) : Type 0 where
-  pub period : period_of (kind_of type) v ≡ round_samples type n * WHOLE_SAMPLE
+  pub period : period_of (kind_of type) v ≡ round_samples type n * whole_sample
   pub in_tune : (memory : ℕ → List ℕ) (slow : ℕ → ℕ) (turns : ℕ) → InTune (kind_of type) turns v (turns_of memory slow turns v)
 
 abbrev pub ImportedInTune : Type 0

@@ -16,7 +16,7 @@ use lib.Signed.{le_z_yes}
 use Rattle.numbers.specs.Numbers.{floor_div, floor_mod, minus, signed, word, held}
 use Rattle.codes.specs.Codes.{value_of, Compressed, best_below, code_of}
 use Rattle.codes.proofs.Samples.{compressed_is}
-use Rattle.control.specs.Control.{STP0, LPE, BLE, DIR, bit_of, flag_of, with_bit, runs}
+use Rattle.control.specs.Control.{stp0_bit, lpe_bit, ble_bit, dir_bit, bit_of, flag_of, with_bit, runs}
 use Rattle.sample.specs.Sample.{first_at, second_at, fetched, missing_of, interpolated}
 use Rattle.filter.specs.Filter.{low_pass, high_pass}
 use Rattle.volume.specs.Volume.{mantissa, exponent, volume_of}
@@ -37,14 +37,14 @@ abbrev stops : ℕ
 stops = 0
 
 abbrev loops : ℕ
-loops = with_bit LPE 1 0
+loops = with_bit lpe_bit 1 0
 
 abbrev turns_round : ℕ
-turns_round = with_bit BLE 1 (with_bit LPE 1 0)
+turns_round = with_bit ble_bit 1 (with_bit lpe_bit 1 0)
 
 -- in reverse
 abbrev back : ℕ → ℕ
-back = with_bit DIR 1
+back = with_bit dir_bit 1
 
 -- the registers that a step reads
 record Registers : Type 0 where
@@ -91,20 +91,20 @@ figures =
     ∷ (accum_after (record { cr = loops; fc = 1; start = 2048; end = 10240; accum = 10240 }), pos 2049)
     -- 9. a voice turns round at END; where the loop has no length, it does so past the end of the addresses
     ∷ (accum_after (record { cr = turns_round; fc = 5; start = 2048; end = 10240; accum = 10240 }), pos 10235)
-    ∷ (bit_after DIR (record { cr = turns_round; fc = 5; start = 2048; end = 10240; accum = 10240 }), pos 1)
+    ∷ (bit_after dir_bit (record { cr = turns_round; fc = 5; start = 2048; end = 10240; accum = 10240 }), pos 1)
     ∷ (accum_after (record { cr = turns_round; fc = 5; start = 0; end = 0; accum = 0 }), pos 4294967291)
-    ∷ (bit_after DIR (record { cr = turns_round; fc = 5; start = 0; end = 0; accum = 0 }), pos 1)
+    ∷ (bit_after dir_bit (record { cr = turns_round; fc = 5; start = 0; end = 0; accum = 0 }), pos 1)
     -- 10. in reverse a target below 0 is past START
     ∷ (accum_after (record { cr = (back stops); fc = 5; start = 0; end = 10240; accum = 3 }), pos 0)
-    ∷ (bit_after STP0 (record { cr = (back stops); fc = 5; start = 0; end = 10240; accum = 3 }), pos 1)
+    ∷ (bit_after stp0_bit (record { cr = (back stops); fc = 5; start = 0; end = 10240; accum = 3 }), pos 1)
     -- 11. a ramp is held to its range at either end
     ∷ (pos (ramped 65500 0x7F00), pos 65535)
     ∷ (pos (ramped 100 0x8000), pos 0)
     -- 12. a voice that does not move is at its loop point without an event; past it, it has one
     ∷ (accum_after (record { cr = stops; fc = 0; start = 2048; end = 10240; accum = 10240 }), pos 10240)
-    ∷ (bit_after STP0 (record { cr = stops; fc = 0; start = 2048; end = 10240; accum = 10240 }), pos 0)
+    ∷ (bit_after stp0_bit (record { cr = stops; fc = 0; start = 2048; end = 10240; accum = 10240 }), pos 0)
     ∷ (accum_after (record { cr = stops; fc = 0; start = 2048; end = 10240; accum = 10241 }), pos 10240)
-    ∷ (bit_after STP0 (record { cr = stops; fc = 0; start = 2048; end = 10240; accum = 10241 }), pos 1)
+    ∷ (bit_after stp0_bit (record { cr = stops; fc = 0; start = 2048; end = 10240; accum = 10241 }), pos 1)
     -- 13. a high pass keeps half of its last output where k is 0; and it rounds once: half of -1 and 1 / 8192 of it, each rounded down, would
     -- be -2 together
     ∷ (high_pass 0 (pos 0) (pos 0) (pos 1000), pos 500)
@@ -134,7 +134,7 @@ missed_of_one CR ACCUM = missed_by (1000 ∷ []) (placed CR ACCUM)
 -- At that word the next is missing, though it is not heard; at the bank's last word that one is, and the next is the word that is there; at the
 -- second word both are. A voice that is stopped there misses none.
 pub missed : List (ℕ × ℕ)
-missed = (missed_of_one 0 0, 1) ∷ (missed_of_one 0 4294965248, 1) ∷ (missed_of_one 0 2048, 2) ∷ (missed_of_one (with_bit STP0 1 0) 2048, 0) ∷ []
+missed = (missed_of_one 0 0, 1) ∷ (missed_of_one 0 4294965248, 1) ∷ (missed_of_one 0 2048, 2) ∷ (missed_of_one (with_bit stp0_bit 1 0) 2048, 0) ∷ []
 
 pub missed_hold : map (λ (row : ℕ × ℕ). row.0) missed ≡ map (λ (row : ℕ × ℕ). row.1) missed
 unfolding missed missed_of_one missed_by missing_of fetched first_at second_at runs flag_of bit_of with_bit
@@ -143,7 +143,7 @@ missed_hold = refl
 -- ---- figures that hold of every value
 
 -- 8 and 12: whatever the loop points, the mode and LEI are, a step that leads onto END is no event.
-pub onto_END : (CR FC START END ACCUM : ℕ) → flag_of DIR CR ≡ false → ACCUM + FC ≡ END → END < 4294967296
+pub onto_END : (CR FC START END ACCUM : ℕ) → flag_of dir_bit CR ≡ false → ACCUM + FC ≡ END → END < 4294967296
     → stepped CR FC START END ACCUM ≡ record { accum = END; cr = CR }
 onto_END CR FC START END ACCUM d e h = on_within CR FC START END ACCUM d (omega arith) h ∙ same_place e refl
 

@@ -10,7 +10,7 @@ use Prim.Native.Nat.{ℕ}
 use native.Mathlib.Omega.{arith}
 use lib.IntN.{ℤ, pos}
 use Rattle.numbers.proofs.Tests.{split, alongside}
-use Rattle.control.specs.Control.{flag_of, runs, LP3, LP4, CMPD, IRQ}
+use Rattle.control.specs.Control.{flag_of, runs, lp3_bit, lp4_bit, cmpd_bit, irq_bit}
 use Rattle.control.proofs.Agree.{AgreeBut, flag_agrees, bank_agrees, runs_agrees}
 use Rattle.sample.specs.Sample.{fetched, sample_of, fraction, interpolated}
 use Rattle.sample.proofs.Laws.{sample_coded, fetched_bank}
@@ -55,7 +55,7 @@ beside_CR v =
     }
 
 pub record ButFlag (v w : Voice) : Type 0 where
-  pub cr : AgreeBut IRQ v.cr w.cr
+  pub cr : AgreeBut irq_bit v.cr w.cr
   pub others : beside_CR v ≡ beside_CR w
 
 -- two turns that add the same and leave such voices
@@ -71,7 +71,7 @@ module _ (v w : Voice) (h : ButFlag v w) where
   unfolding beside_CR last_outputs
   same_poles x =
       filtered_passes v.cr w.cr v.k1 v.k2 x (last_outputs v)
-      (flag_agrees IRQ v.cr w.cr h.cr LP3 (λ e. omega arith)) (flag_agrees IRQ v.cr w.cr h.cr LP4 (λ e. omega arith))
+      (flag_agrees irq_bit v.cr w.cr h.cr lp3_bit (λ e. omega arith)) (flag_agrees irq_bit v.cr w.cr h.cr lp4_bit (λ e. omega arith))
       ∙ ap (λ (z : Voice). filtered w.cr z.k1 z.k2 x (last_outputs z)) h.others
 
   same_fetch : (memory : List ℕ) → fetched memory v.cr v.accum ≡ fetched memory w.cr w.accum
@@ -84,7 +84,7 @@ module _ (v w : Voice) (h : ButFlag v w) where
   unfolding beside_CR sampled
   same_sample memory =
       let f = same_fetch memory in
-      let stands : (b : ℕ) → sample_of v.cr b ≡ sample_of w.cr b = λ b. sample_coded v.cr w.cr b (flag_agrees IRQ v.cr w.cr h.cr CMPD (λ e. omega arith)) in
+      let stands : (b : ℕ) → sample_of v.cr b ≡ sample_of w.cr b = λ b. sample_coded v.cr w.cr b (flag_agrees irq_bit v.cr w.cr h.cr cmpd_bit (λ e. omega arith)) in
       λ i. interpolated (fraction (h.others i).accum) (stands (f i).first.bits i) (stands (f i).second.bits i)
 
   pub same_missed : (memory : List ℕ) → missed_by memory v ≡ missed_by memory w
@@ -131,8 +131,8 @@ module _ (v w : Voice) (h : ButFlag v w) where
 
 -- ---- the flag after a turn
 
-pub turn_flag : (memory : List ℕ) (slow : ℕ) (v : Voice) → flag_of IRQ (turn_of memory slow v).voice.cr ≡ (flag_of IRQ v.cr || raises v)
+pub turn_flag : (memory : List ℕ) (slow : ℕ) (v : Voice) → flag_of irq_bit (turn_of memory slow v).voice.cr ≡ (flag_of irq_bit v.cr || raises v)
 unfolding with_outputs moved stopped_turn running_turn raises
 turn_flag memory slow v = split _ (runs v.cr)
     (λ t. rw (turn_runs memory slow v t, t) (stepped_flag v.cr v.fc v.start v.end v.accum))
-    (λ t. rw (turn_stands memory slow v t, t) (sym (or-false (flag_of IRQ v.cr))))
+    (λ t. rw (turn_stands memory slow v t, t) (sym (or-false (flag_of irq_bit v.cr))))

@@ -17,7 +17,7 @@ use Rattle.numbers.specs.Numbers.{floor_mod, word}
 use Rattle.numbers.proofs.Tests.{split, cases}
 use Rattle.numbers.proofs.Difference.{is_pos, pos-⊖, ⊖-sub}
 use Rattle.numbers.proofs.Words.{pos-sub}
-use Rattle.control.specs.Control.{bit_of, flag_of, with_bit, runs, STP0, STP1, LEI, LPE, BLE, IRQE, DIR, IRQ}
+use Rattle.control.specs.Control.{bit_of, flag_of, with_bit, runs, stp0_bit, stp1_bit, lei_bit, lpe_bit, ble_bit, irqe_bit, dir_bit, irq_bit}
 use Rattle.control.proofs.Bits.{flag_put, flag_other}
 use Rattle.address.specs.Address.{raised, forward_event, forward, stepped}
 use Rattle.address.specs.Event.{event}
@@ -45,19 +45,19 @@ abbrev under : Voice → ℕ
 under v = v.start + v.fc - v.accum
 
 module _ {k : Kind} {v : Voice} (l : Loops k v) where
-  on : flag_of DIR v.cr ≡ false → v.accum + v.fc ≤ v.end → next v ≡ record { accum = v.accum + v.fc; cr = v.cr }
+  on : flag_of dir_bit v.cr ≡ false → v.accum + v.fc ≤ v.end → next v ≡ record { accum = v.accum + v.fc; cr = v.cr }
   on t h = on_within v.cr v.fc v.start v.end v.accum t h l.address
 
-  on_past : flag_of DIR v.cr ≡ false → v.end < v.accum + v.fc → next v ≡ event v.cr v.end (pos (v.start + over v)) (pos (v.end - over v)) 1
+  on_past : flag_of dir_bit v.cr ≡ false → v.end < v.accum + v.fc → next v ≡ event v.cr v.end (pos (v.start + over v)) (pos (v.end - over v)) 1
   on_past t h =
       steps_on v.cr v.fc v.start v.end v.accum t
       ∙ forward_event_lem v.cr v.fc v.start v.end v.accum l.heeded (lt-leb (v.accum + v.fc) v.end h)
       ∙ rw (less (v.accum + v.fc) v.end (over v) (omega arith), less v.end (over v) (v.end - over v) (omega arith))
 
-  back : flag_of DIR v.cr ≡ true → v.start + v.fc ≤ v.accum → next v ≡ record { accum = v.accum - v.fc; cr = v.cr }
+  back : flag_of dir_bit v.cr ≡ true → v.start + v.fc ≤ v.accum → next v ≡ record { accum = v.accum - v.fc; cr = v.cr }
   back t h = back_within v.cr v.fc v.start v.end v.accum t h (omega arith)
 
-  back_past : flag_of DIR v.cr ≡ true → v.accum < v.start + v.fc → next v ≡ event v.cr v.start (pos (v.end - under v)) (pos (v.start + under v)) 0
+  back_past : flag_of dir_bit v.cr ≡ true → v.accum < v.start + v.fc → next v ≡ event v.cr v.start (pos (v.end - under v)) (pos (v.start + under v)) 0
   back_past t h =
       let past : lt_z (pos v.accum -ℤ pos v.fc) (pos v.start) ≡ true = back_test v.fc v.start v.accum ∙ lt-ltb v.accum (v.start + v.fc) h in
       let e : pos v.start -ℤ (pos v.accum -ℤ pos v.fc) ≡ pos (under v) =
@@ -69,19 +69,19 @@ module _ {k : Kind} {v : Voice} (l : Loops k v) where
 
 -- ---- the bits that a step keeps
 
-module _ (b CR : ℕ) (h : b ≢ IRQ) where
+module _ (b CR : ℕ) (h : b ≢ irq_bit) where
   raised_other : flag_of b (raised CR) ≡ flag_of b CR
-  raised_other = split _ (flag_of IRQE CR)
-      (λ t. ap (flag_of b) (raised_on CR t) ∙ flag_other b IRQ 1 CR (omega arith) h)
+  raised_other = split _ (flag_of irqe_bit CR)
+      (λ t. ap (flag_of b) (raised_on CR t) ∙ flag_other b irq_bit 1 CR (omega arith) h)
       (λ t. ap (flag_of b) (raised_off CR t))
 
-  direction_other : (direction : ℕ) → direction ≤ 1 → b ≢ DIR → flag_of b (with_bit DIR direction (raised CR)) ≡ flag_of b CR
-  direction_other direction l g = flag_other b DIR direction (raised CR) l g ∙ raised_other
+  direction_other : (direction : ℕ) → direction ≤ 1 → b ≢ dir_bit → flag_of b (with_bit dir_bit direction (raised CR)) ≡ flag_of b CR
+  direction_other direction l g = flag_other b dir_bit direction (raised CR) l g ∙ raised_other
 
 raised_mode : (k : Kind) (CR : ℕ) → Mode k CR → Mode k (raised CR)
-raised_mode Forward CR m = (raised_other BLE CR (omega arith) ∙ m.0, raised_other LPE CR (omega arith) ∙ m.1, raised_other DIR CR (omega arith) ∙ m.2)
-raised_mode Reverse CR m = (raised_other BLE CR (omega arith) ∙ m.0, raised_other LPE CR (omega arith) ∙ m.1, raised_other DIR CR (omega arith) ∙ m.2)
-raised_mode Bidirectional CR m = (raised_other BLE CR (omega arith) ∙ m.0, raised_other LPE CR (omega arith) ∙ m.1)
+raised_mode Forward CR m = (raised_other ble_bit CR (omega arith) ∙ m.0, raised_other lpe_bit CR (omega arith) ∙ m.1, raised_other dir_bit CR (omega arith) ∙ m.2)
+raised_mode Reverse CR m = (raised_other ble_bit CR (omega arith) ∙ m.0, raised_other lpe_bit CR (omega arith) ∙ m.1, raised_other dir_bit CR (omega arith) ∙ m.2)
+raised_mode Bidirectional CR m = (raised_other ble_bit CR (omega arith) ∙ m.0, raised_other lpe_bit CR (omega arith) ∙ m.1)
 
 -- ---- what a turn does to the registers that a loop is made of
 
@@ -102,15 +102,15 @@ turn_placed memory slow v r =
 
 -- A turn that leads to a place within the loop, j periods short of a step on, is in tune.
 arrived : (k : Kind) (v w : Voice) (p : Place) → Loops k v → Placed v w p
-    → Mode k p.cr → ((b : ℕ) → b ≢ IRQ → b ≢ DIR → flag_of b p.cr ≡ flag_of b v.cr) → v.start ≤ p.accum → p.accum ≤ v.end
+    → Mode k p.cr → ((b : ℕ) → b ≢ irq_bit → b ≢ dir_bit → flag_of b p.cr ≡ flag_of b v.cr) → v.start ≤ p.accum → p.accum ≤ v.end
     → (j : ℕ) → position_of k w + j * period_of k v ≡ position_of k v + v.fc → InTune k 1 v w
 unfolding runs
 arrived k v w p l q m kept from to j e =
-    let same : (b : ℕ) → b ≢ IRQ → b ≢ DIR → flag_of b w.cr ≡ flag_of b v.cr = λ b h g. ap (flag_of b) q.cr ∙ kept b h g in
+    let same : (b : ℕ) → b ≢ irq_bit → b ≢ dir_bit → flag_of b w.cr ≡ flag_of b v.cr = λ b h g. ap (flag_of b) q.cr ∙ kept b h g in
     record {
       loops = record {
-        running = rw (same STP0 (omega arith) (omega arith), same STP1 (omega arith) (omega arith)) l.running;
-        heeded = same LEI (omega arith) (omega arith) ∙ l.heeded;
+        running = rw (same stp0_bit (omega arith) (omega arith), same stp1_bit (omega arith) (omega arith)) l.running;
+        heeded = same lei_bit (omega arith) (omega arith) ∙ l.heeded;
         mode = subst (Mode k) (sym q.cr) m;
         from = omega arith;
         to = omega arith;
@@ -138,22 +138,22 @@ module _ (k : Kind) (v w : Voice) (l : Loops k v) (q : Placed v w (next v)) (a :
       arrived k v w _ l r (raised_mode k v.cr l.mode) (λ b h g. raised_other b v.cr h) from to 1 (omega (arith, here r.accum))
 
 round : (v w : Voice) → Loops Bidirectional v → Placed v w (next v) → (a : ℕ) → v.start ≤ a → a ≤ v.end
-    → (direction : ℕ) → direction ≤ 1 → next v ≡ record { accum = word 32 (pos a); cr = with_bit DIR direction (raised v.cr) }
-    → (j : ℕ) → (w.accum ≡ a → flag_of DIR w.cr ≡ eqb direction 1 → position_of Bidirectional w + j * period_of Bidirectional v ≡ position_of Bidirectional v + v.fc)
+    → (direction : ℕ) → direction ≤ 1 → next v ≡ record { accum = word 32 (pos a); cr = with_bit dir_bit direction (raised v.cr) }
+    → (j : ℕ) → (w.accum ≡ a → flag_of dir_bit w.cr ≡ eqb direction 1 → position_of Bidirectional w + j * period_of Bidirectional v ≡ position_of Bidirectional v + v.fc)
     → InTune Bidirectional 1 v w
 round v w l q a from to direction t e j here =
     let r = subst (Placed v w) (e ∙ same_place (stored a (omega arith)) refl) q in
-    let kept : (b : ℕ) → b ≢ IRQ → b ≢ DIR → flag_of b (with_bit DIR direction (raised v.cr)) ≡ flag_of b v.cr = λ b h g. direction_other b v.cr h direction t g in
-    arrived Bidirectional v w _ l r (kept BLE (omega arith) (omega arith) ∙ l.mode.0, kept LPE (omega arith) (omega arith) ∙ l.mode.1) kept from to j
-    (here r.accum (ap (flag_of DIR) r.cr ∙ flag_put DIR direction (raised v.cr) t))
+    let kept : (b : ℕ) → b ≢ irq_bit → b ≢ dir_bit → flag_of b (with_bit dir_bit direction (raised v.cr)) ≡ flag_of b v.cr = λ b h g. direction_other b v.cr h direction t g in
+    arrived Bidirectional v w _ l r (kept ble_bit (omega arith) (omega arith) ∙ l.mode.0, kept lpe_bit (omega arith) (omega arith) ∙ l.mode.1) kept from to j
+    (here r.accum (ap (flag_of dir_bit) r.cr ∙ flag_put dir_bit direction (raised v.cr) t))
 
 -- the position in a bidirectional loop, on the way to END and on the way back
 module _ (v : Voice) where
-  outward : flag_of DIR v.cr ≡ false → position_of Bidirectional v ≡ v.accum - v.start
+  outward : flag_of dir_bit v.cr ≡ false → position_of Bidirectional v ≡ v.accum - v.start
   unfolding position_of
   outward h = rw h
 
-  homeward : flag_of DIR v.cr ≡ true → position_of Bidirectional v ≡ v.end - v.start + (v.end - v.accum)
+  homeward : flag_of dir_bit v.cr ≡ true → position_of Bidirectional v ≡ v.end - v.start + (v.end - v.accum)
   unfolding position_of
   homeward h = rw h
 
@@ -166,13 +166,13 @@ turn Forward v w l q = cases v.end (v.accum + v.fc) (InTune Forward 1 v w)
 turn Reverse v w l q = cases v.accum (v.start + v.fc) (InTune Reverse 1 v w)
     (λ h. around Reverse v w l q (v.end - under v) (omega arith) (omega arith) (back_past l l.mode.2 h ∙ goes_on _ _ _ _ _ l.mode.0 l.mode.1) (λ a. omega arith))
     (λ h. within Reverse v w l q (v.accum - v.fc) (omega arith) (omega arith) (back l l.mode.2 h) (λ a c. omega arith))
-turn Bidirectional v w l q = split (InTune Bidirectional 1 v w) (flag_of DIR v.cr)
+turn Bidirectional v w l q = split (InTune Bidirectional 1 v w) (flag_of dir_bit v.cr)
     (λ d. cases v.accum (v.start + v.fc) (InTune Bidirectional 1 v w)
     (λ h. round v w l q (v.start + under v) (omega arith) (omega arith) 0 (omega arith) (back_past l d h ∙ turns _ _ _ _ _ l.mode.0 l.mode.1) 1 (λ a c. omega (arith, outward w c, homeward v d)))
-    (λ h. within Bidirectional v w l q (v.accum - v.fc) (omega arith) (omega arith) (back l d h) (λ a c. omega (arith, homeward w (ap (flag_of DIR) c ∙ d), homeward v d))))
+    (λ h. within Bidirectional v w l q (v.accum - v.fc) (omega arith) (omega arith) (back l d h) (λ a c. omega (arith, homeward w (ap (flag_of dir_bit) c ∙ d), homeward v d))))
     (λ d. cases v.end (v.accum + v.fc) (InTune Bidirectional 1 v w)
     (λ h. round v w l q (v.end - over v) (omega arith) (omega arith) 1 (omega arith) (on_past l d h ∙ turns _ _ _ _ _ l.mode.0 l.mode.1) 0 (λ a c. omega (arith, homeward w c, outward v d)))
-    (λ h. within Bidirectional v w l q (v.accum + v.fc) (omega arith) h (on l d h) (λ a c. omega (arith, outward w (ap (flag_of DIR) c ∙ d), outward v d))))
+    (λ h. within Bidirectional v w l q (v.accum + v.fc) (omega arith) h (on l d h) (λ a c. omega (arith, outward w (ap (flag_of dir_bit) c ∙ d), outward v d))))
 
 -- ---- n turns
 
@@ -243,7 +243,7 @@ pub sustained_loops : Loops Forward (sustained 0x08 124800) × Loops Reverse (su
 unfolding sustained runs flag_of bit_of
 sustained_loops = (loops Forward 0x08 refl refl (refl, refl, refl), loops Reverse 0x48 refl refl (refl, refl, refl), loops Bidirectional 0x18 refl refl (refl, refl))
   where
-    loops : (k : Kind) (CR : ℕ) → runs CR ≡ true → flag_of LEI CR ≡ false → Mode k CR → Loops k (sustained CR 124800)
+    loops : (k : Kind) (CR : ℕ) → runs CR ≡ true → flag_of lei_bit CR ≡ false → Mode k CR → Loops k (sustained CR 124800)
     loops k CR r h m = record {
       running = r;
       heeded = h;

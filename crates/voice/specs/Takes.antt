@@ -6,7 +6,7 @@ use Rattle.numbers.specs.Numbers.{Bits, Within}
 use Rattle.control.specs.Control.{channel_of, runs}
 use Rattle.address.specs.Address.{stepped}
 use Rattle.address.specs.declared.Place.{Place}
-use Rattle.machine.specs.Words.{CR}
+use Rattle.machine.specs.Words.{cr_word}
 use Rattle.voice.specs.declared.Addend.{Addend}
 use Rattle.voice.specs.Voice.{Voice, voice_of, words_of}
 use Rattle.voice.specs.Turn.{passing, levels_of, ramped_levels, with_outputs, moved, turn_of}
@@ -42,7 +42,7 @@ pub record Passes (x : ℤ) (w after : List ℕ) (o4 : ℤ) : Type 0 where
 -- A turn: the words afterwards, and what is added to which channel. A stopped voice adds nothing, and names a channel that is none.
 pub record TakesTurn (memory : List ℕ) (slow : ℕ) (w after : List ℕ) (a : Addend) : Type 0 where
   pub words : after ≡ words_of (turn_of memory slow (voice_of w)).voice
-  pub channel : a.channel ≡ (if runs (slice_index w CR) then channel_of (slice_index w CR) else 7)
+  pub channel : a.channel ≡ (if runs (slice_index w cr_word) then channel_of (slice_index w cr_word) else 7)
   pub left : a.left ≡ (turn_of memory slow (voice_of w)).left
   pub right : a.right ≡ (turn_of memory slow (voice_of w)).right
   pub small_left : Within 1048576 a.left

@@ -2,7 +2,7 @@
 -- In order: n turns; the kinds of loop, by the bits that make them, the position in the loop and the loop's period; a voice in a loop; what
 -- n turns of it have to come to. Assumes nothing.
 use Rattle.std.specs.Prelude.{ℕ, zero, suc, ◌+◌, ◌-◌, ◌*◌, ◌%◌, ◌<◌, ◌≤◌, ◌≡◌, ◌≢◌, IsTrue, IsFalse, if◌then◌else◌, List}
-use Rattle.control.specs.Control.{flag_of, runs, LEI, LPE, BLE, DIR, IRQ}
+use Rattle.control.specs.Control.{flag_of, runs, lei_bit, lpe_bit, ble_bit, dir_bit, irq_bit}
 use Rattle.voice.specs.Voice.{Voice}
 use Rattle.voice.specs.Turn.{turn_of}
 
@@ -22,14 +22,14 @@ pub data Kind : Type 0 where
   Forward Reverse Bidirectional : Kind
 
 abbrev pub Mode : Kind → ℕ → Type 0
-Mode Forward CR = IsFalse (flag_of BLE CR) × IsTrue (flag_of LPE CR) × IsFalse (flag_of DIR CR)
-Mode Reverse CR = IsFalse (flag_of BLE CR) × IsTrue (flag_of LPE CR) × IsTrue (flag_of DIR CR)
-Mode Bidirectional CR = IsTrue (flag_of BLE CR) × IsTrue (flag_of LPE CR)
+Mode Forward CR = IsFalse (flag_of ble_bit CR) × IsTrue (flag_of lpe_bit CR) × IsFalse (flag_of dir_bit CR)
+Mode Reverse CR = IsFalse (flag_of ble_bit CR) × IsTrue (flag_of lpe_bit CR) × IsTrue (flag_of dir_bit CR)
+Mode Bidirectional CR = IsTrue (flag_of ble_bit CR) × IsTrue (flag_of lpe_bit CR)
 
 unfoldable pub position_of : Kind → Voice → ℕ
 position_of Forward v = v.accum - v.start
 position_of Reverse v = v.end - v.accum
-position_of Bidirectional v = if flag_of DIR v.cr then v.end - v.start + (v.end - v.accum) else v.accum - v.start
+position_of Bidirectional v = if flag_of dir_bit v.cr then v.end - v.start + (v.end - v.accum) else v.accum - v.start
 
 unfoldable pub period_of : Kind → Voice → ℕ
 period_of Forward v = v.end - v.start
@@ -40,7 +40,7 @@ period_of Bidirectional v = 2 * (v.end - v.start)
 -- would be past the loop point still after the event.
 pub record Loops (k : Kind) (v : Voice) : Type 0 where
   pub running : IsTrue (runs v.cr)
-  pub heeded : IsFalse (flag_of LEI v.cr)
+  pub heeded : IsFalse (flag_of lei_bit v.cr)
   pub mode : Mode k v.cr
   pub from : v.start ≤ v.accum
   pub to : v.accum ≤ v.end
@@ -56,5 +56,5 @@ pub record InTune (k : Kind) (n : ℕ) (v w : Voice) : Type 0 where
   pub end : w.end ≡ v.end
   pub fc : w.fc ≡ v.fc
   -- the control register is as it was, but for the interrupt flag and, in a bidirectional loop, the direction
-  pub bits : (b : ℕ) → b ≢ IRQ → b ≢ DIR → flag_of b w.cr ≡ flag_of b v.cr
+  pub bits : (b : ℕ) → b ≢ irq_bit → b ≢ dir_bit → flag_of b w.cr ≡ flag_of b v.cr
   pub position : position_of k w % period_of k v ≡ (position_of k v + n * v.fc) % period_of k v

@@ -2,7 +2,7 @@
 -- In order: the twenty registers, in the order of the record's words; the voice that twenty words are, and the words that a voice is; the
 -- levels that ramps move; what a turn gives. Assumes nothing.
 use Rattle.std.specs.Prelude.{ℕ, List, [], ◌∷◌, ℤ, slice_index}
-use Rattle.machine.specs.Words.{CR, FC, LVOL, LVRAMP, RVOL, RVRAMP, ECOUNT, K2, K2RAMP, K1, K1RAMP, START, END, ACCUM, O4N1, O3N1, O3N2, O2N1, O2N2, O1N1}
+use Rattle.machine.specs.Words.{cr_word, fc_word, lvol_word, lvramp_word, rvol_word, rvramp_word, ecount_word, k2_word, k2ramp_word, k1_word, k1ramp_word, start_word, end_word, accum_word, o4n1_word, o3n1_word, o3n2_word, o2n1_word, o2n2_word, o1n1_word}
 
 pub record Voice : Type 0 where
   pub cr : ℕ
@@ -29,26 +29,26 @@ pub record Voice : Type 0 where
 abbrev pub voice_of : List ℕ → Voice
 voice_of w =
     record {
-      cr = slice_index w CR;
-      fc = slice_index w FC;
-      lvol = slice_index w LVOL;
-      lvramp = slice_index w LVRAMP;
-      rvol = slice_index w RVOL;
-      rvramp = slice_index w RVRAMP;
-      ecount = slice_index w ECOUNT;
-      k2 = slice_index w K2;
-      k2ramp = slice_index w K2RAMP;
-      k1 = slice_index w K1;
-      k1ramp = slice_index w K1RAMP;
-      start = slice_index w START;
-      end = slice_index w END;
-      accum = slice_index w ACCUM;
-      o4n1 = slice_index w O4N1;
-      o3n1 = slice_index w O3N1;
-      o3n2 = slice_index w O3N2;
-      o2n1 = slice_index w O2N1;
-      o2n2 = slice_index w O2N2;
-      o1n1 = slice_index w O1N1;
+      cr = slice_index w cr_word;
+      fc = slice_index w fc_word;
+      lvol = slice_index w lvol_word;
+      lvramp = slice_index w lvramp_word;
+      rvol = slice_index w rvol_word;
+      rvramp = slice_index w rvramp_word;
+      ecount = slice_index w ecount_word;
+      k2 = slice_index w k2_word;
+      k2ramp = slice_index w k2ramp_word;
+      k1 = slice_index w k1_word;
+      k1ramp = slice_index w k1ramp_word;
+      start = slice_index w start_word;
+      end = slice_index w end_word;
+      accum = slice_index w accum_word;
+      o4n1 = slice_index w o4n1_word;
+      o3n1 = slice_index w o3n1_word;
+      o3n2 = slice_index w o3n2_word;
+      o2n1 = slice_index w o2n1_word;
+      o2n2 = slice_index w o2n2_word;
+      o1n1 = slice_index w o1n1_word;
     }
 
 unfoldable pub words_of : Voice → List ℕ

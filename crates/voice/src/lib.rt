@@ -8,7 +8,7 @@ ghost use Rattle.std.specs.Prelude.{◌≡◌, if◌then◌else◌, ◌+◌, ◌
 ghost use Rattle.numbers.specs.Numbers.{Bits};
 ghost use Rattle.control.specs.Control.{runs};
 ghost use Rattle.filter.specs.PoleBits.{PoleBits};
-ghost use Rattle.machine.specs.Words.{VOICE_WORDS, CR, FC, ACCUM};
+ghost use Rattle.machine.specs.Words.{voice_words, cr_word, fc_word, accum_word};
 ghost use Rattle.voice.specs.Voice.{voice_of};
 ghost use Rattle.voice.specs.Turn.{sampled, last_outputs, levels_of};
 ghost use Rattle.voice.specs.Missed.{missed_by};
@@ -39,11 +39,11 @@ pub struct Addend {
 // numbers that go from crate to crate, as the 16 bits of CR and of a level and the 18 of an output:
 // a type of each width would be made where a word is read, and owe the same there, at each call.
 pub fn turn(w: &mut [u32], slow: u32, samples: &Samples, missing: &mut u32) -> Option<Addend>
-    requires w_len { length w.old ≡ VOICE_WORDS }
+    requires w_len { length w.old ≡ voice_words }
     requires ranges { Ranges (voice_of w.old) }
     requires missing_bound { missing.old + 2 < 2 ^ 32 }
     ensures takes_turn { TakesTurn samples.now.memory.now slow w.old w.new (as_addend result) }
-    ensures running { IsSome result ↔ IsTrue (runs (slice_index w.old CR)) }
+    ensures running { IsSome result ↔ IsTrue (runs (slice_index w.old cr_word)) }
     ensures missing_after { missing.new ≡ missing.old + missed_by samples.now.memory.now (voice_of w.old) }
 {
     let Some(w) = w.as_mut_array() else {
@@ -70,9 +70,9 @@ pub fn turn(w: &mut [u32], slow: u32, samples: &Samples, missing: &mut u32) -> O
 // What goes into the filters: the sample that the voice is at, or 0 where it is stopped; such a
 // voice asks for no word, and misses none.
 fn input(w: &Words, samples: &Samples, missing: &mut u32) -> i32
-    requires cr_bound { slice_index w.now CR < 65536 }
+    requires cr_bound { slice_index w.now cr_word < 65536 }
     requires missing_bound { missing.old + 2 < 2 ^ 32 }
-    ensures value { (result ≡ (if runs (slice_index w.now CR) then sampled samples.now.memory.now (voice_of w.now) else pos 0)) × Bits 18 result }
+    ensures value { (result ≡ (if runs (slice_index w.now cr_word) then sampled samples.now.memory.now (voice_of w.now) else pos 0)) × Bits 18 result }
     ensures missing_after { missing.new ≡ missing.old + missed_by samples.now.memory.now (voice_of w.now) }
 {
     let cr = w[machine::CR];
@@ -122,7 +122,7 @@ fn last_outputs(w: &Words) -> Poles
 // nothing else changes, whatever the loop mode. This quick step stays beside `address::step`, which
 // alone would take 608 to 785 instructions more a frame.
 fn step(w: &mut Words)
-    requires { slice_index w.old CR < 65536 }
+    requires { slice_index w.old cr_word < 65536 }
     ensures { w.new ≡ after_step w.old }
 {
     let fc = w[machine::FC];
@@ -146,7 +146,7 @@ fn step(w: &mut Words)
 
 // The step that passes a loop point, whether the voice heeds it or not.
 fn step_past(w: &mut Words)
-    requires { slice_index w.old CR < 65536 }
+    requires { slice_index w.old cr_word < 65536 }
     ensures { w.new ≡ after_step w.old }
 {
     let p = address::step(

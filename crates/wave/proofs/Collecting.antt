@@ -7,7 +7,7 @@ use mathlib.Core.List.{List, [], ◌∷◌, ◌++◌, append_assoc, append-nil}
 use Prim.Native.Nat.{ℕ, ◌+◌, ◌-◌, ◌≤◌, ◌<◌}
 use native.Mathlib.Omega.{arith}
 use Rattle.std.specs.Prelude.{Option, Some, None}
-use Rattle.chunks.specs.Chunks.{Listing, unreadable, chunks, before, chunks_from, chunk_at, next, FIRST_CHUNK}
+use Rattle.chunks.specs.Chunks.{Listing, unreadable, chunks, before, chunks_from, chunk_at, next, first_chunk}
 use Rattle.chunks.specs.Walk.{reach_of}
 use Rattle.chunks.specs.declared.Chunk.{Chunk}
 use Rattle.chunks.proofs.Reached.{was_past, was_whole}
@@ -33,7 +33,7 @@ joined cs (chunks ds) = chunks (cs ++ ds)
 pub record Progress (file : List ℕ) (end : ℕ) (found : Found) (i : ℕ) : Type 0 where
   pub done : List Chunk
   pub left : ℕ
-  pub so_far : chunks_from end file end FIRST_CHUNK ≡ joined done (chunks_from left file end i)
+  pub so_far : chunks_from end file end first_chunk ≡ joined done (chunks_from left file end i)
   pub keeps : found ≡ found_of done
   pub full : any_short done ≡ false
   pub enough : end ≤ i + left
@@ -55,12 +55,12 @@ unfolding joined collected_of
 short_joined cs unreadable h = refl
 short_joined cs (chunks ds) h = rw (short_append cs ds, h)
 
-pub begun : (file : List ℕ) (end : ℕ) (f : Found) → f ≡ found_of [] → FIRST_CHUNK ≤ end → Progress file end f FIRST_CHUNK
+pub begun : (file : List ℕ) (end : ℕ) (f : Found) → f ≡ found_of [] → first_chunk ≤ end → Progress file end f first_chunk
 unfolding any_short
 begun file end f e h = record {
   done = [];
   left = end;
-  so_far = none_joined (chunks_from end file end FIRST_CHUNK);
+  so_far = none_joined (chunks_from end file end first_chunk);
   keeps = e;
   full = refl;
   enough = omega arith;
@@ -68,12 +68,12 @@ begun file end f e h = record {
 }
 
 module _ {file : List ℕ} {end : ℕ} {found : Found} {i : ℕ} (p : Progress file end found i) (r : Option (Chunk × ℕ)) (read : r ≡ reach_of file end i) (on : i < end) where
-  pub stops : r ≡ None → None ≡ collected_of (chunks_from end file end FIRST_CHUNK)
+  pub stops : r ≡ None → None ≡ collected_of (chunks_from end file end first_chunk)
   unfolding joined collected_of
   stops e = rw (p.so_far, one_chunk file end p.left i on p.enough, was_past file end i r read e)
 
   module _ (c : Chunk) (n : ℕ) (whole : r ≡ Some (c, n)) where
-    with_it : chunks_from end file end FIRST_CHUNK ≡ joined (p.done ++ (c ∷ [])) (chunks_from (p.left - 1) file end n)
+    with_it : chunks_from end file end first_chunk ≡ joined (p.done ++ (c ∷ [])) (chunks_from (p.left - 1) file end n)
     with_it =
         let w = was_whole file end i r read c n whole in
         p.so_far ∙ rw (one_chunk file end p.left i on p.enough, w.0, w.1.0, w.1.1) (joined_more p.done (chunk_at file i) (chunks_from (p.left - 1) file end (next (chunk_at file i))))
@@ -84,7 +84,7 @@ module _ {file : List ℕ} {end : ℕ} {found : Found} {i : ℕ} (p : Progress f
         let g = goes_on file end i in
         rw w.1.1 (omega arith)
 
-    pub too_short : is_short c ≡ true → None ≡ collected_of (chunks_from end file end FIRST_CHUNK)
+    pub too_short : is_short c ≡ true → None ≡ collected_of (chunks_from end file end first_chunk)
     unfolding any_short
     too_short s = rw with_it (short_joined (p.done ++ (c ∷ [])) (chunks_from (p.left - 1) file end n) (short_append p.done (c ∷ []) ∙ rw (s, or-true (any_short p.done))))
 
@@ -104,6 +104,6 @@ module _ {file : List ℕ} {end : ℕ} {found : Found} {i : ℕ} (p : Progress f
           within = rw w.1.1 b;
         }
 
-pub all_read : {file : List ℕ} {end : ℕ} {found : Found} {i : ℕ} → Progress file end found i → end ≤ i → Some found ≡ collected_of (chunks_from end file end FIRST_CHUNK)
+pub all_read : {file : List ℕ} {end : ℕ} {found : Found} {i : ℕ} → Progress file end found i → end ≤ i → Some found ≡ collected_of (chunks_from end file end first_chunk)
 unfolding joined collected_of
 all_read {file} {end} {found} {i} p h = rw (p.so_far, no_chunk file end p.left i h, append-nil p.done, p.full, p.keeps)

@@ -7,7 +7,7 @@ use Prim.Native.Nat.{ℕ}
 use native.Mathlib.Omega.{arith}
 use lib.Dec.{eqb}
 use Rattle.std.specs.Prelude.{Some, None}
-use Rattle.chunks.specs.Chunks.{named, FORMAT, DATA, SAMPLER}
+use Rattle.chunks.specs.Chunks.{named, format_name, data_name, sampler_name}
 use Rattle.chunks.specs.declared.Chunk.{Chunk}
 use Rattle.chunks.proofs.Named.{Each, named-append}
 use Rattle.wave.specs.Wave.{first_of, is_once, is_sampler_short, first_sampler_short, first_loop}
@@ -33,7 +33,7 @@ unfolding named
 keep_one n cs c = kept_by (eqb c.name n) (named n cs) c ∙ ap kept_of (sym (named-append n cs (c ∷ [])))
 
 pub found_more : (cs : List Chunk) (c : Chunk) → with_chunk c (found_of cs) ≡ found_of (cs ++ (c ∷ []))
-found_more cs c = rw (keep_one FORMAT cs c, keep_one DATA cs c, keep_one SAMPLER cs c)
+found_more cs c = rw (keep_one format_name cs c, keep_one data_name cs c, keep_one sampler_name cs c)
 
 -- ---- what is kept, and what the rules ask
 

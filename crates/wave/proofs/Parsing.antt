@@ -8,7 +8,7 @@ use Prim.Native.Nat.{ℕ, ◌≤◌}
 use native.Mathlib.Omega.{arith}
 use lib.ListN.{length}
 use Rattle.std.specs.Prelude.{Option, Some, None}
-use Rattle.chunks.specs.Chunks.{Listing, unreadable, chunks, chunks_from, riff_end, is_headed, listing, is_unreadable, chunks_in, chunks_of, named, SAMPLER, FIRST_CHUNK, MOST_FILE_BYTES}
+use Rattle.chunks.specs.Chunks.{Listing, unreadable, chunks, chunks_from, riff_end, is_headed, listing, is_unreadable, chunks_in, chunks_of, named, sampler_name, first_chunk, most_file_bytes}
 use Rattle.chunks.specs.Row.{InRow}
 use Rattle.chunks.specs.declared.Chunk.{Chunk}
 use Rattle.chunks.specs.Walk.{opened_of}
@@ -42,7 +42,7 @@ read_by false r h = absurd (false≢true (sym h))
 
 read_headed : (file : List ℕ) → is_unreadable (listing file) ≡ false → is_headed file ≡ true
 unfolding listing
-read_headed file h = read_by (is_headed file) (chunks_from (riff_end file) file (riff_end file) FIRST_CHUNK) h
+read_headed file h = read_by (is_headed file) (chunks_from (riff_end file) file (riff_end file) first_chunk) h
 
 is_read : (r : Listing) → is_unreadable r ≡ false → r ≡ chunks (chunks_in r)
 unfolding is_unreadable chunks_in
@@ -50,7 +50,7 @@ is_read unreadable h = absurd (false≢true (sym h))
 is_read (chunks cs) h = refl
 
 -- where its chunks end
-pub upto_within : (file : List ℕ) (o : Option ℕ) → o ≡ opened_of file → (end : ℕ) → o ≡ Some end → (FIRST_CHUNK ≤ end) × (end ≤ length file)
+pub upto_within : (file : List ℕ) (o : Option ℕ) → o ≡ opened_of file → (end : ℕ) → o ≡ Some end → (first_chunk ≤ end) × (end ≤ length file)
 upto_within file o opened end upto =
     let h = was_upto file o opened end upto in
     let w = headed_within file h.0 in
@@ -58,9 +58,9 @@ upto_within file o opened end upto =
 
 -- its chunks stand in a row up to the end of its RIFF length, which lies in the file
 pub record InFileRow (file : List ℕ) : Type 0 where
-  pub row : InRow file (riff_end file) FIRST_CHUNK (chunks_of file)
+  pub row : InRow file (riff_end file) first_chunk (chunks_of file)
   pub within : riff_end file ≤ length file
-  pub few : length file ≤ MOST_FILE_BYTES
+  pub few : length file ≤ most_file_bytes
 
 pub read_row : (file : List ℕ) → is_unreadable (listing file) ≡ false → InFileRow file
 read_row file h =
@@ -74,7 +74,7 @@ within_file file end h (c ∷ cs) e = (omega arith, within_file file end h cs e.
 
 -- so each lies in the file, and the first of some
 pub each_in_file : (file : List ℕ) → InFileRow file → Each (InFile file) (chunks_of file)
-each_in_file file r = within_file file (riff_end file) r.within (chunks_of file) (row_before file (riff_end file) FIRST_CHUNK (chunks_of file) r.row)
+each_in_file file r = within_file file (riff_end file) r.within (chunks_of file) (row_before file (riff_end file) first_chunk (chunks_of file) r.row)
 
 pub first_in : (file : List ℕ) (cs : List Chunk) → Each (InFile file) cs → InFile file (first_of cs)
 unfolding first_of
@@ -92,14 +92,14 @@ module _ (file : List ℕ) where
   unfolding is_broken listing is_unreadable
   no_header o opened e = is_broken_lem (rw (was_unheaded file o opened e))
 
-  module _ (o : Option ℕ) (opened : o ≡ opened_of file) (end : ℕ) (upto : o ≡ Some end) (r : Option Found) (pass : r ≡ collected_of (chunks_from end file end FIRST_CHUNK)) where
+  module _ (o : Option ℕ) (opened : o ≡ opened_of file) (end : ℕ) (upto : o ≡ Some end) (r : Option Found) (pass : r ≡ collected_of (chunks_from end file end first_chunk)) where
     whole_pass : r ≡ collected_of (listing file)
     unfolding listing
     whole_pass = let h = was_upto file o opened end upto in pass ∙ rw (h.0, h.1)
 
     pub no_chunks : r ≡ None → None ≡ parsed_of file
     unfolding is_broken
-    no_chunks e = is_broken_lem (came_broken (listing file) r e whole_pass (first_sampler_short file (named SAMPLER (chunks_of file))))
+    no_chunks e = is_broken_lem (came_broken (listing file) r e whole_pass (first_sampler_short file (named sampler_name (chunks_of file))))
 
     module _ (f : Found) (found : r ≡ Some f) where
       pub found_is : f ≡ found_of (chunks_of file)
@@ -108,20 +108,20 @@ module _ (file : List ℕ) where
       pub sampler_in : FirstInFile file f.sampler
       sampler_in =
           let w = came_found (listing file) r f found whole_pass in
-          rw found_is (kept_in file (named SAMPLER (chunks_of file)) (each_named (InFile file) SAMPLER (chunks_of file) (each_in_file file (read_row file w.0))))
+          rw found_is (kept_in file (named sampler_name (chunks_of file)) (each_named (InFile file) sampler_name (chunks_of file) (each_in_file file (read_row file w.0))))
 
       pub sampler_short : first_sampler_short_of file f.sampler ≡ true → None ≡ parsed_of file
       unfolding is_broken
       sampler_short t =
           let w = came_found (listing file) r f found whole_pass in
-          let c : first_sampler_short file (named SAMPLER (chunks_of file)) ≡ true = sym (kept_sampler_short file (named SAMPLER (chunks_of file))) ∙ rw found_is at t in
+          let c : first_sampler_short file (named sampler_name (chunks_of file)) ≡ true = sym (kept_sampler_short file (named sampler_name (chunks_of file))) ∙ rw found_is at t in
           is_broken_lem (rw (w.0, w.1.0, c))
 
       pub all_there : first_sampler_short_of file f.sampler ≡ false → Some f ≡ parsed_of file
       unfolding is_broken parsed_of
       all_there t =
           let w = came_found (listing file) r f found whole_pass in
-          let c : first_sampler_short file (named SAMPLER (chunks_of file)) ≡ false = sym (kept_sampler_short file (named SAMPLER (chunks_of file))) ∙ rw found_is at t in
+          let c : first_sampler_short file (named sampler_name (chunks_of file)) ≡ false = sym (kept_sampler_short file (named sampler_name (chunks_of file))) ∙ rw found_is at t in
           rw (w.0, w.1.0, c, found_is)
 
 -- ---- what an answer tells

@@ -3,7 +3,7 @@
 use Rattle.std.specs.Prelude.{ℕ, ◌+◌, ◌*◌, ◌/◌, Bool, true, false, if◌then◌else◌, ◌&&◌, ◌||◌, List, [], ◌∷◌, nat_lt, ◌==◌, Option, Some, None}
 use Rattle.layout.specs.Parts.{part}
 use Rattle.layout.specs.Bytes.{little, little2_at, little4_at, twos}
-use Rattle.chunks.specs.Chunks.{listing, is_unreadable, chunks_of, named, FORMAT, DATA, SAMPLER}
+use Rattle.chunks.specs.Chunks.{listing, is_unreadable, chunks_of, named, format_name, data_name, sampler_name}
 use Rattle.chunks.specs.declared.Chunk.{Chunk}
 use Rattle.wave.specs.declared.Loop.{Loop}
 
@@ -20,15 +20,15 @@ is_once (c ∷ d ∷ cs) = false
 
 -- ---- the format: of its bytes, sixteen at least, 0 and 1 are the tag, 2 and 3 the channels, 14 and 15 the bits of a sample
 
-abbrev pub FORMAT_BYTES : ℕ
-FORMAT_BYTES = 16
+abbrev pub format_bytes : ℕ
+format_bytes = 16
 
 abbrev pub format_of : List Chunk → Chunk
-format_of cs = first_of (named FORMAT cs)
+format_of cs = first_of (named format_name cs)
 
 -- a format chunk that has less
 abbrev pub is_short : Chunk → Bool
-is_short c = c.name == FORMAT && nat_lt c.size FORMAT_BYTES
+is_short c = c.name == format_name && nat_lt c.size format_bytes
 
 unfoldable pub any_short : List Chunk → Bool
 any_short [] = false
@@ -41,7 +41,7 @@ is_mono16 file c = little2_at file c.place == 1 && (little2_at file (c.place + 2
 -- ---- the data: two bytes a sample
 
 abbrev pub data_of : List Chunk → Chunk
-data_of cs = first_of (named DATA cs)
+data_of cs = first_of (named data_name cs)
 
 abbrev pub count_of : Chunk → ℕ
 count_of c = c.size / 2
@@ -53,18 +53,18 @@ samples_of file c = twos little (part file c.place c.size)
 -- these, the start in 8 to 11, the end in 12 to 15. Start and end are numbers of samples, and the end is the last one of the loop. The other
 -- bytes, among them a fraction and a number of rounds, are not looked at.
 
-abbrev pub SAMPLER_BYTES : ℕ
-SAMPLER_BYTES = 36
+abbrev pub sampler_bytes : ℕ
+sampler_bytes = 36
 
-abbrev pub LOOP_BYTES : ℕ
-LOOP_BYTES = 24
+abbrev pub loop_bytes : ℕ
+loop_bytes = 24
 
 abbrev pub loops_of : List ℕ → Chunk → ℕ
 loops_of file c = little4_at file (c.place + 28)
 
 -- it has less than its bytes and those of the loops that they count
 unfoldable pub is_sampler_short : List ℕ → Chunk → Bool
-is_sampler_short file c = nat_lt c.size (SAMPLER_BYTES + LOOP_BYTES * loops_of file c)
+is_sampler_short file c = nat_lt c.size (sampler_bytes + loop_bytes * loops_of file c)
 
 -- no loop, and one: its type, its first sample and its last
 abbrev pub Absent : Option Loop
@@ -75,7 +75,7 @@ Present type start last = Some (record { form = type; start = start; last = last
 
 unfoldable pub loop_in : List ℕ → Chunk → Option Loop
 loop_in file c =
-    let i = c.place + SAMPLER_BYTES in
+    let i = c.place + sampler_bytes in
     if loops_of file c == 0 then Absent else Present (little4_at file (i + 4)) (little4_at file (i + 8)) (little4_at file (i + 12))
 
 -- of the first sampler chunk, if there is one; later ones are not looked into
@@ -88,9 +88,9 @@ first_loop file [] = Absent
 first_loop file (c ∷ cs) = loop_in file c
 
 abbrev pub loop_of : List ℕ → List Chunk → Option Loop
-loop_of file cs = first_loop file (named SAMPLER cs)
+loop_of file cs = first_loop file (named sampler_name cs)
 
 -- ---- the file cannot be read as chunks, or a format chunk, or the first sampler chunk, has less than it must
 
 unfoldable pub is_broken : List ℕ → Bool
-is_broken file = is_unreadable (listing file) || (any_short (chunks_of file) || first_sampler_short file (named SAMPLER (chunks_of file)))
+is_broken file = is_unreadable (listing file) || (any_short (chunks_of file) || first_sampler_short file (named sampler_name (chunks_of file)))

@@ -7,8 +7,8 @@
 #![tactic(auto)]
 
 ghost use Rattle.std.specs.Prelude.{◌≡◌, IsFalse, if◌then◌else◌, Some, None, ◌≤◌, length};
-ghost use Rattle.chunks.specs.Chunks.{chunks_from, FIRST_CHUNK as Chunks-as-FIRST_CHUNK};
-ghost use Rattle.wave.specs.Wave.{is_short, is_mono16, is_sampler_short, FORMAT_BYTES as Wave-as-FORMAT_BYTES};
+ghost use Rattle.chunks.specs.Chunks.{chunks_from, first_chunk};
+ghost use Rattle.wave.specs.Wave.{is_short, is_mono16, is_sampler_short, format_bytes};
 ghost use Rattle.wave.specs.Parse.{first_kept, kept_more, with_chunk, once_both, collected_of, parsed_of, first_sampler_short_of, loop_of_kept, InFile, FirstInFile};
 
 use chunks::{Chunk, Kind};
@@ -114,9 +114,9 @@ pub fn parse(file: &[u8]) -> Option<Found>
 
 // One pass over the chunks.
 fn collect(file: &[u8], end: usize) -> Option<Found>
-    requires le_end { Chunks-as-FIRST_CHUNK ≤ end }
+    requires le_end { first_chunk ≤ end }
     requires end_in_bounds { end ≤ length file.now }
-    ensures { result ≡ collected_of (chunks_from end file.now end Chunks-as-FIRST_CHUNK) }
+    ensures { result ≡ collected_of (chunks_from end file.now end first_chunk) }
 {
     let mut found = Found::default();
     // A chunk tells where the next one is: no range or iterator has the places.
@@ -138,7 +138,7 @@ fn collect(file: &[u8], end: usize) -> Option<Found>
 #[tactic(auto, using(layout::proofs::Endian::little_2_at), unfolding(crate::specs::Wave::is_mono16))]
 pub fn is_mono16(file: &[u8], c: Chunk) -> bool
     requires in_file { InFile file.now c }
-    requires le_size { Wave-as-FORMAT_BYTES ≤ c.size }
+    requires le_size { format_bytes ≤ c.size }
     ensures { result ≡ is_mono16 file.now c }
 {
     let place = c.place;

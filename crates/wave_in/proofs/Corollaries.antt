@@ -12,12 +12,12 @@ use lib.Pow.{pow_pos}
 use Rattle.answer.specs.Answer.{is_done}
 use Rattle.std.specs.Prelude.{Option, Some, None}
 use Rattle.numbers.proofs.Tests.{split}
-use Rattle.machine.specs.Words.{voice_word, voice_range, bits_of, cut, START, END}
+use Rattle.machine.specs.Words.{voice_word, voice_range, bits_of, cut, start_word, end_word}
 use Rattle.machine.proofs.Valid.{cut_voice}
 use Rattle.layout.specs.Parts.{part, with_part}
 use Rattle.layout.proofs.Parts.{with_length, with_part_lem, with_before, with_after}
-use Rattle.sample.specs.Sample.{BANK_WORDS, WHOLE_SAMPLE}
-use Rattle.chunks.specs.Chunks.{listing, is_unreadable, chunks_of, HEADER_BYTES, FIRST_CHUNK, riff_end}
+use Rattle.sample.specs.Sample.{bank_words, whole_sample}
+use Rattle.chunks.specs.Chunks.{listing, is_unreadable, chunks_of, header_bytes, first_chunk, riff_end}
 use Rattle.chunks.proofs.Row.{row_few}
 use Rattle.wave.specs.Wave.{data_of, samples_of, loop_of}
 use Rattle.wave_in.specs.Registers.{start_of}
@@ -99,26 +99,26 @@ high_kept : (j k m : ℕ) → m < 2 ^ j → bit_and (m * 2 ^ k) (2 ^ (j + k) - 2
 high_kept j k m h =
     and_high (m * 2 ^ k) j k ∙ ap (λ (x : ℕ). x % 2 ^ j * 2 ^ k) (mul-div_cancel m (pow_pos k)) ∙ ap (λ (x : ℕ). x * 2 ^ k) (mod-eq_of_lt h)
 
-start_whole : (word : ℕ) (l : Option Loop) → (k : ℕ) × (start_of word l ≡ k * WHOLE_SAMPLE)
+start_whole : (word : ℕ) (l : Option Loop) → (k : ℕ) × (start_of word l ≡ k * whole_sample)
 unfolding start_of
 start_whole word None = (0, refl)
-start_whole word (Some l) = (word % BANK_WORDS + l.start, refl)
+start_whole word (Some l) = (word % bank_words + l.start, refl)
 
 module _ (v : ℕ) (h : v < 32) where
-  start_cut : (k : ℕ) → k * WHOLE_SAMPLE < voice_range END → cut (voice_word v START) (k * WHOLE_SAMPLE) ≡ k * WHOLE_SAMPLE
+  start_cut : (k : ℕ) → k * whole_sample < voice_range end_word → cut (voice_word v start_word) (k * whole_sample) ≡ k * whole_sample
   unfolding cut bits_of
-  start_cut k l = cut_voice v START (k * WHOLE_SAMPLE) h (omega arith) ∙ high_kept 21 11 k (omega arith)
+  start_cut k l = cut_voice v start_word (k * whole_sample) h (omega arith) ∙ high_kept 21 11 k (omega arith)
 
-  end_cut : (k : ℕ) → k * WHOLE_SAMPLE < voice_range END → cut (voice_word v END) (k * WHOLE_SAMPLE) ≡ k * WHOLE_SAMPLE
+  end_cut : (k : ℕ) → k * whole_sample < voice_range end_word → cut (voice_word v end_word) (k * whole_sample) ≡ k * whole_sample
   unfolding cut bits_of
   end_cut k l =
-      let e : k * WHOLE_SAMPLE ≡ k * 16 * 2 ^ 7 = omega arith in
-      cut_voice v END (k * WHOLE_SAMPLE) h (omega arith) ∙ rw e (high_kept 25 7 (k * 16) (omega arith))
+      let e : k * whole_sample ≡ k * 16 * 2 ^ 7 = omega arith in
+      cut_voice v end_word (k * whole_sample) h (omega arith) ∙ rw e (high_kept 25 7 (k * 16) (omega arith))
 
   -- so a voice to which they are written holds them as they were answered
   pub registers_keep : {file memory : List ℕ} {word : ℕ} {r : Imported} {after : List ℕ} → Imports file memory word r after
-      → (cut (voice_word v START) r.start ≡ r.start) × (cut (voice_word v END) r.end ≡ r.end)
-  registers_keep {file} {memory} {word} {r} p = split ((cut (voice_word v START) r.start ≡ r.start) × (cut (voice_word v END) r.end ≡ r.end)) (is_done r.answer)
+      → (cut (voice_word v start_word) r.start ≡ r.start) × (cut (voice_word v end_word) r.end ≡ r.end)
+  registers_keep {file} {memory} {word} {r} p = split ((cut (voice_word v start_word) r.start ≡ r.start) × (cut (voice_word v end_word) r.end ≡ r.end)) (is_done r.answer)
       (λ d.
       let l = loop_of file (chunks_of file) in
       let q = importable file (length memory) word (sym (same_done p) ∙ d) in
@@ -131,9 +131,9 @@ module _ (v : ℕ) (h : v < 32) where
 
 -- ---- the steps of the pass: each of the chunks takes eight bytes or more
 
-pub chunks_few : (file : List ℕ) → is_unreadable (listing file) ≡ false → FIRST_CHUNK + HEADER_BYTES * length (chunks_of file) ≤ length file
+pub chunks_few : (file : List ℕ) → is_unreadable (listing file) ≡ false → first_chunk + header_bytes * length (chunks_of file) ≤ length file
 chunks_few file h =
     let r = read_row file h in
-    let f = row_few file (riff_end file) FIRST_CHUNK (chunks_of file) r.row in
+    let f = row_few file (riff_end file) first_chunk (chunks_of file) r.row in
     let w = r.within in
     omega arith

@@ -14,10 +14,10 @@ use Rattle.numbers.proofs.Tests.{neither}
 use Rattle.answer.specs.Answer.{Answer, is_done}
 use Rattle.answer.specs.declared.Refusal.{Refusal}
 use Rattle.answer.proofs.Refusals.{none_holds}
-use Rattle.machine.specs.Words.{voice_range, END}
+use Rattle.machine.specs.Words.{voice_range, end_word}
 use Rattle.layout.specs.Parts.{with_part}
-use Rattle.sample.specs.Sample.{BANK_WORDS, too_many_words}
-use Rattle.chunks.specs.Chunks.{chunks_of, DATA}
+use Rattle.sample.specs.Sample.{bank_words, too_many_words}
+use Rattle.chunks.specs.Chunks.{chunks_of, data_name}
 use Rattle.chunks.specs.declared.Chunk.{Chunk}
 use Rattle.wave.specs.Wave.{format_of, data_of, count_of, samples_of, is_mono16, loop_of, is_broken}
 use Rattle.wave_in.specs.Registers.{start_of, end_of}
@@ -89,7 +89,7 @@ even n h = omega arith
 
 module _ {file : List ℕ} {room word : ℕ} (p : Importable file room word) where
   data_in_file : InFile file (data_of (chunks_of file))
-  data_in_file = named_in file (not_broken file p.unbroken) DATA
+  data_in_file = named_in file (not_broken file p.unbroken) data_name
 
   -- the samples' bytes are in the file, by twos, and the words for them are lent, in one bank
   pub placeable : Placeable file (data_of (chunks_of file)) room word
@@ -97,24 +97,24 @@ module _ {file : List ℕ} {room word : ℕ} (p : Importable file room word) whe
   placeable =
       let d = data_of (chunks_of file) in
       let o = neither (not (is_mono16 file (format_of (chunks_of file)))) (eqb (d.size % 2) 1) p.format in
-      let n = neither (ltb room (word + count_of d)) (ltb BANK_WORDS (word % BANK_WORDS + count_of d) || leb (voice_range END) (end_of word (loop_of file (chunks_of file)))) p.place in
+      let n = neither (ltb room (word + count_of d)) (ltb bank_words (word % bank_words + count_of d) || leb (voice_range end_word) (end_of word (loop_of file (chunks_of file)))) p.place in
       record { inside = data_in_file; even = even d.size (eqb-false (d.size % 2) 1 o.1); lent = ltb-false room (word + count_of d) n.0 }
 
-  pub in_bank : word % BANK_WORDS + count_of (data_of (chunks_of file)) ≤ BANK_WORDS
+  pub in_bank : word % bank_words + count_of (data_of (chunks_of file)) ≤ bank_words
   unfolding has_no_place
   in_bank =
       let d = data_of (chunks_of file) in
-      let e = leb (voice_range END) (end_of word (loop_of file (chunks_of file))) in
-      let n = neither (ltb room (word + count_of d)) (ltb BANK_WORDS (word % BANK_WORDS + count_of d) || e) p.place in
-      ltb-false BANK_WORDS (word % BANK_WORDS + count_of d) (neither (ltb BANK_WORDS (word % BANK_WORDS + count_of d)) e n.1).0
+      let e = leb (voice_range end_word) (end_of word (loop_of file (chunks_of file))) in
+      let n = neither (ltb room (word + count_of d)) (ltb bank_words (word % bank_words + count_of d) || e) p.place in
+      ltb-false bank_words (word % bank_words + count_of d) (neither (ltb bank_words (word % bank_words + count_of d)) e n.1).0
 
-  pub end_fits : end_of word (loop_of file (chunks_of file)) < voice_range END
+  pub end_fits : end_of word (loop_of file (chunks_of file)) < voice_range end_word
   unfolding has_no_place
   end_fits =
       let d = data_of (chunks_of file) in
-      let e = leb (voice_range END) (end_of word (loop_of file (chunks_of file))) in
-      let n = neither (ltb room (word + count_of d)) (ltb BANK_WORDS (word % BANK_WORDS + count_of d) || e) p.place in
-      leb-false (voice_range END) (end_of word (loop_of file (chunks_of file))) (neither (ltb BANK_WORDS (word % BANK_WORDS + count_of d)) e n.1).1
+      let e = leb (voice_range end_word) (end_of word (loop_of file (chunks_of file))) in
+      let n = neither (ltb room (word + count_of d)) (ltb bank_words (word % bank_words + count_of d) || e) p.place in
+      leb-false (voice_range end_word) (end_of word (loop_of file (chunks_of file))) (neither (ltb bank_words (word % bank_words + count_of d)) e n.1).1
 
   pub data_fits : (data_of (chunks_of file)).size < 4294967296
   data_fits =

@@ -4,10 +4,10 @@ use Rattle.std.specs.Prelude.{◌≡◌, ℕ, ◌+◌, ◌%◌, Bool, false, if�
 use Rattle.answer.specs.Answer.{Answer, Done, first_refusal, is_done}
 use Rattle.answer.specs.declared.Refusal.{Refusal}
 use Rattle.answer.specs.declared.Refusal.TheVariants.{MemoryLength, FileBroken, ChunkCount, SampleFormat, LoopInvalid, NoPlace}
-use Rattle.machine.specs.Words.{voice_range, END}
+use Rattle.machine.specs.Words.{voice_range, end_word}
 use Rattle.layout.specs.Parts.{with_part}
-use Rattle.sample.specs.Sample.{BANK_WORDS, too_many_words}
-use Rattle.chunks.specs.Chunks.{chunks_of, named, FORMAT, DATA}
+use Rattle.sample.specs.Sample.{bank_words, too_many_words}
+use Rattle.chunks.specs.Chunks.{chunks_of, named, format_name, data_name}
 use Rattle.chunks.specs.declared.Chunk.{Chunk}
 use Rattle.wave.specs.Wave.{is_once, format_of, is_mono16, data_of, count_of, samples_of, loop_of, is_broken}
 use Rattle.wave.specs.declared.Loop.{Loop}
@@ -20,7 +20,7 @@ use Rattle.wave_in.specs.declared.Taken.{Taken}
 
 -- 21: not one format chunk, or not one data chunk
 unfoldable pub is_miscounted : List Chunk → Bool
-is_miscounted cs = not (is_once (named FORMAT cs) && is_once (named DATA cs))
+is_miscounted cs = not (is_once (named format_name cs) && is_once (named data_name cs))
 
 -- 22: samples that are no 16-bit PCM of one channel, or of which the last lacks a byte
 unfoldable pub is_other_format : List ℕ → List Chunk → Bool
@@ -34,7 +34,7 @@ is_loop_invalid count (Some l) = nat_le count l.last || (nat_lt l.last l.start |
 -- 24: the lent memory or the bank ends before the samples do, or END is greater than its register's greatest value. (It is a number of whole
 -- samples, so that is where it has more than 32 bits.)
 unfoldable pub has_no_place : ℕ → ℕ → ℕ → Option Loop → Bool
-has_no_place room word count l = nat_lt room (word + count) || (nat_lt BANK_WORDS (word % BANK_WORDS + count) || nat_le (voice_range END) (end_of word l))
+has_no_place room word count l = nat_lt room (word + count) || (nat_lt bank_words (word % bank_words + count) || nat_le (voice_range end_word) (end_of word l))
 
 -- all of them, in their order
 abbrev pub import_tests : List ℕ → ℕ → ℕ → List (Bool × Refusal)

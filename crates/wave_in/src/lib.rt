@@ -11,7 +11,7 @@
 ghost use Rattle.std.specs.Prelude.{◌≡◌, ◌*◌, ◌^◌, ◌≤◌, length};
 ghost use Rattle.layout.specs.Parts.{with_part};
 ghost use Rattle.layout.specs.Bytes.{little, twos};
-ghost use Rattle.chunks.specs.Chunks.{MOST_FILE_BYTES};
+ghost use Rattle.chunks.specs.Chunks.{most_file_bytes};
 ghost use Rattle.wave.specs.Wave.{samples_of};
 ghost use Rattle.wave_in.specs.Registers.{register_at, start_of, end_of, type_bits, loop_bits};
 ghost use Rattle.wave_in.specs.Import.{is_loop_invalid, has_no_place, outcome_of, Imports};
@@ -134,7 +134,7 @@ fn is_loop_invalid(count: usize, looped: Option<Loop>) -> bool
 // taken from the room.
 #[tactic(auto, using(crate::proofs::Placed::end_test), unfolding(crate::specs::Import::has_no_place))]
 fn has_no_place(room: usize, word: usize, count: usize, looped: Option<Loop>) -> bool
-    requires { count ≤ MOST_FILE_BYTES }
+    requires { count ≤ most_file_bytes }
     ensures { result ≡ has_no_place room word count looped }
 {
     let bank_words = sample::BANK_WORDS as usize;

@@ -7,14 +7,14 @@ use lib.IntN.{ℤ}
 use lib.ListN.{get_or}
 use mir.Syntax.{w32}
 use Rattle.numbers.proofs.Local.{ranged}
-use Rattle.machine.specs.Words.{SUMS}
+use Rattle.machine.specs.Words.{sums_word}
 use Rattle.frame.specs.Frame.{added_to}
 use Rattle.frame.proofs.Steps.{added_in, added_none, added_to_other}
 use Rattle.frame.proofs.add.Goals as goal
 
 -- the right sum is the one after the left, which the left's new value leaves
-next_sum : (m : List ℕ) (c : ℕ) (z : ℤ) → get_or (added_to m (SUMS + 2 * c) z) (SUMS + 2 * c + 1) 0 ≡ get_or m (SUMS + (2 * c + 1)) 0
-next_sum m c z = added_to_other m (SUMS + 2 * c) (SUMS + 2 * c + 1) z (λ e. omega arith) ∙ ap (λ (i : ℕ). get_or m i 0) (omega arith)
+next_sum : (m : List ℕ) (c : ℕ) (z : ℤ) → get_or (added_to m (sums_word + 2 * c) z) (sums_word + 2 * c + 1) 0 ≡ get_or m (sums_word + (2 * c + 1)) 0
+next_sum m c z = added_to_other m (sums_word + 2 * c) (sums_word + 2 * c + 1) z (λ e. omega arith) ∙ ap (λ (i : ℕ). get_or m i 0) (omega arith)
 
 pub returns-in_default : goal.returns-in_default
 returns-in_default c = rw c.in_default.is (sym (added_none _ _ _ _ (omega arith)))

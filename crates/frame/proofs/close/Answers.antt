@@ -4,7 +4,7 @@ use mathlib.Core.List.{map}
 use lib.ListN.{drop}
 use lib.Seq.{get_or-take, get_or-drop}
 use Rattle.channel.specs.Channel.{put_out}
-use Rattle.machine.specs.Words.{SUMS}
+use Rattle.machine.specs.Words.{sums_word}
 use Rattle.machine.proofs.Valid.{sound, in_range, is_valid}
 use Rattle.frame.specs.Frame.{closed, silenced, heard}
 use Rattle.frame.proofs.Keeps.{sum_small}
@@ -18,7 +18,7 @@ invariant_of-m c = let s = silenced_sound _ (sound _ c.args.m.now.sound) in reco
 pub put_out-requires-clause-by_index : goal.put_out-requires-clause-by_index
 put_out-requires-clause-by_index c =
     rw c.take_sums-sums.ensures.0
-    (λ i k. rw (get_or-take 12 (drop SUMS c.args.m.now.words.now) i 0 k, get_or-drop SUMS c.args.m.now.words.now i 0) (sum_small _ (in_range (sound _ c.args.m.now.sound)) i k))
+    (λ i k. rw (get_or-take 12 (drop sums_word c.args.m.now.words.now) i 0 k, get_or-drop sums_word c.args.m.now.words.now i 0) (sum_small _ (in_range (sound _ c.args.m.now.sound)) i k))
 
 pub invariant_of-m-2 : goal.invariant_of-m-2
 unfolding closed silenced

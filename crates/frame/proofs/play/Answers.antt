@@ -6,7 +6,7 @@ use native.Mathlib.Numerals.{add-one}
 use native.Mathlib.Omega.{arith}
 use lib.ListN.{get_or}
 use Rattle.numbers.specs.Sum.{sum}
-use Rattle.machine.specs.Words.{ACTV, SLOW}
+use Rattle.machine.specs.Words.{actv_word, slow_word}
 use Rattle.machine.specs.Voices.{voice_at}
 use Rattle.machine.proofs.Valid.{sound, is_valid}
 use Rattle.voice.specs.Voice.{voice_of}
@@ -38,7 +38,7 @@ pub turn-requires-clause-slow_value : goal.turn-requires-clause-slow_value
 turn-requires-clause-slow_value c =
     let s = sound _ c.args.m.now.sound in
     let l = c.loop-v in
-    sym (ap (λ (x : List ℕ). get_or x SLOW 0) l.invariant.turned ∙ slow_stays (turned c.args.memory.now l.v (omega (arith, active_le _ s)) s))
+    sym (ap (λ (x : List ℕ). get_or x slow_word 0) l.invariant.turned ∙ slow_stays (turned c.args.memory.now l.v (omega (arith, active_le _ s)) s))
 
 pub turn-requires-clause-missing_bound : goal.turn-requires-clause-missing_bound
 turn-requires-clause-missing_bound c =
@@ -64,13 +64,13 @@ unfolding played
 returns-clause-leaves c =
     let h = c.loop-v.invariant in
     let m = c.args.m.now.words.now in
-    let e : c.loop-v.v ≡ get_or m ACTV 0 + 1 = omega arith in
+    let e : c.loop-v.v ≡ get_or m actv_word 0 + 1 = omega arith in
     (h.same, h.turned ∙ ap (λ (k : ℕ). turns c.args.memory.now k m) e)
 
 pub returns-clause-missing : goal.returns-clause-missing
 returns-clause-missing c =
     let m = c.args.m.now.words.now in
-    let e : c.loop-v.v ≡ get_or m ACTV 0 + 1 = omega arith in
+    let e : c.loop-v.v ≡ get_or m actv_word 0 + 1 = omega arith in
     c.loop-v.invariant.missed ∙ ap (λ (k : ℕ). missed_in_turns c.args.memory.now k m) e ∙ missed_in-turns c.args.memory.now (sound m c.args.m.now.sound)
 
 -- the same where the last turn was that of voice ACTV
@@ -79,13 +79,13 @@ unfolding played
 returns-2-clause-leaves c =
     let h = c.loop-v.invariant in
     let m = c.args.m.now.words.now in
-    let e : c.loop-v.v + 1 ≡ get_or m ACTV 0 + 1 = omega arith in
+    let e : c.loop-v.v + 1 ≡ get_or m actv_word 0 + 1 = omega arith in
     (h.same, turned_on c.args.m.now.words.now c.loop-v.v c.new-samples.ensures h.turned c.turn.ensures.m_after ∙ ap (λ (k : ℕ). turns c.args.memory.now k m) e)
 
 pub returns-2-clause-missing : goal.returns-2-clause-missing
 returns-2-clause-missing c =
     let h = c.loop-v.invariant in
     let m = c.args.m.now.words.now in
-    let e : c.loop-v.v + 1 ≡ get_or m ACTV 0 + 1 = omega arith in
+    let e : c.loop-v.v + 1 ≡ get_or m actv_word 0 + 1 = omega arith in
     missed_on c.args.m.now.words.now c.loop-v.v c.new-samples.ensures h.turned h.missed c.turn.ensures.missing_after
     ∙ ap (λ (k : ℕ). missed_in_turns c.args.memory.now k m) e ∙ missed_in-turns c.args.memory.now (sound m c.args.m.now.sound)

@@ -6,7 +6,7 @@ use Prim.Native.Nat.{ℕ, ◌+◌, ◌-◌, ◌*◌, ◌<◌}
 use native.Mathlib.Omega.{arith}
 use borrow.Rule.Slice.PartMut.{put_mid}
 use lib.ListN.{get_or, take, drop}
-use Rattle.machine.specs.Words.{SLOW}
+use Rattle.machine.specs.Words.{slow_word}
 use Rattle.machine.specs.Voices.{voice_at}
 use Rattle.machine.proofs.Valid.{Sound, InRange, sound, in_range, range_voice}
 use Rattle.voice.specs.declared.Addend.{Addend}
@@ -25,11 +25,11 @@ twenty : (v : ℕ) → part v ≡ 20
 twenty v = omega arith
 
 -- the slow-ramp counter is the record's
-at_counter : (m : List ℕ) {memory w after : List ℕ} {slow : ℕ} {a : Addend} → slow ≡ get_or m SLOW 0 → TakesTurn memory slow w after a → TakesTurn memory (get_or m SLOW 0) w after a
+at_counter : (m : List ℕ) {memory w after : List ℕ} {slow : ℕ} {a : Addend} → slow ≡ get_or m slow_word 0 → TakesTurn memory slow w after a → TakesTurn memory (get_or m slow_word 0) w after a
 at_counter m {memory} {w} {after} {slow} {a} e p = subst (λ (x : ℕ). TakesTurn memory x w after a) e p
 
 -- the record with the part put back
-put_back : (memory m : List ℕ) (v : ℕ) (after : List ℕ) (a : Addend) → TakesTurn memory (get_or m SLOW 0) (take (part v) (drop (20 * v) m)) after a → Sound m → v < 32
+put_back : (memory m : List ℕ) (v : ℕ) (after : List ℕ) (a : Addend) → TakesTurn memory (get_or m slow_word 0) (take (part v) (drop (20 * v) m)) after a → Sound m → v < 32
     → InRange (put_mid (20 * v) (part v) m after)
 put_back memory m v after a p s h = back_range memory m v (part v) after a (twenty v) p s h
 

@@ -4,7 +4,7 @@ use lib.Bits.{bit_xor}
 use lib.Dec.{eqb}
 use lib.ListN.{get_or}
 use borrow.Author.Tests.{eq-eqb, ne_eqb}
-use Rattle.machine.specs.Words.{RECORD_WORDS, WAIT_MASK, shared_bits, cut_to, waiting_voices, has_true_mask}
+use Rattle.machine.specs.Words.{record_words, wait_mask_word, shared_bits, cut_to, waiting_voices, has_true_mask}
 use Rattle.machine.specs.Kept.{gathered_kept, sums_kept, shared_kept, clear, Lanes}
 use Rattle.machine.proofs.Kept.{lanes_and_mask}
 use Rattle.machine.proofs.Valid.{words_test}
@@ -28,14 +28,14 @@ look_at_rest-requires-clause-kept_value c = refl
 
 -- the stray bits of all words and of the mask: none, or one, and the record's own test says the same
 stray : (m s : List ℕ) (y : ℕ) → Lanes s (gathered_kept m 20 && sums_kept m 4 && shared_kept m 4) → y ≡ waiting_voices m
-    → (cut_to m RECORD_WORDS && has_true_mask m)
-    ≡ eqb (bit_or (bit_or (bit_or (bit_or (get_or s 0 0) (get_or s 1 0)) (get_or s 2 0)) (get_or s 3 0)) (bit_xor (get_or m WAIT_MASK 0) y)) 0
+    → (cut_to m record_words && has_true_mask m)
+    ≡ eqb (bit_or (bit_or (bit_or (bit_or (get_or s 0 0) (get_or s 1 0)) (get_or s 2 0)) (get_or s 3 0)) (bit_xor (get_or m wait_mask_word 0) y)) 0
 stray m s y p e = sym (lanes_and_mask m y p e ∙ words_test m)
 
 pub returns-then-stray-ne0 : goal.returns-then-stray-ne0
 returns-then-stray-ne0 c =
     let same : c.in_ok-m.m.now ≡ c.args.m.now = search rules in
-    let size : length c.args.m.now ≡ RECORD_WORDS = search rules in
+    let size : length c.args.m.now ≡ record_words = search rules in
     let t = stray c.in_ok-m.m.now _ _ c.look_at_rest.ensures c.gather_flags.ensures in
     rw (← same) (elim c.then-stray-ne0.branch [
       | then-stray-ne0-via-then-stray-ne0 w ↦ sym (check_words _ (ap length same ∙ size) (t ∙ ne_eqb _ _ w.if-stray-ne0.true))
@@ -46,6 +46,6 @@ returns-then-stray-ne0 c =
 pub returns : goal.returns
 returns c =
     let same : c.in_ok-m.m.now ≡ c.args.m.now = search rules in
-    let size : length c.args.m.now ≡ RECORD_WORDS = search rules in
+    let size : length c.args.m.now ≡ record_words = search rules in
     let t = stray c.in_ok-m.m.now _ _ c.look_at_rest.ensures c.gather_flags.ensures in
     rw (← same) (sym (check_vector _ (ap length same ∙ size) (t ∙ eq-eqb _ _ c.if-stray-ne0.false) true (search rules)))

@@ -1,11 +1,11 @@
 -- The flags gathered so far fit, and fit with one more.
 use Rattle.std.proofs.Common.{◌≡◌, ◌+◌, ◌-◌, ◌*◌, ◌/◌, ◌^◌, ◌<◌, ℕ, List, arith, ap}
-use Rattle.control.specs.Control.{IRQ}
+use Rattle.control.specs.Control.{irq_bit}
 use Rattle.machine.specs.Words.{waiting_voices}
 use Rattle.machine.proofs.Mask.{waiting_lt, flags_from, flags_small}
 use Rattle.machine.proofs.gather_flags.Goals as goal
 
-small : (m : List ℕ) (flags v : ℕ) → flags ≡ 2 ^ IRQ * (waiting_voices m / 2 ^ v) → flags < 2 ^ 39
+small : (m : List ℕ) (flags v : ℕ) → flags ≡ 2 ^ irq_bit * (waiting_voices m / 2 ^ v) → flags < 2 ^ 39
 small m flags v e = omega (arith, e, flags_small m v)
 
 pub loop-v-init : goal.loop-v-init
