@@ -68,8 +68,8 @@ fn reverse(cr: u32, fc: u32, start: u32, end: u32, accum: u32) -> Place
 // A loop event, by the loop mode. Both directions share it: they differ in where the three ways
 // lead, and in the direction after, and each says so in one call.
 fn event(cr: u32, passed: u32, across: i64, back: i64, reverse: bool) -> Place
-    requires within { Within 17179869184 across }
-    requires within_2 { Within 17179869184 back }
+    requires across_fits { Within 17179869184 across }
+    requires back_fits { Within 17179869184 back }
     ensures { result ≡ event cr passed across back (if reverse then 1 else 0) }
 {
     let up = raise(cr);

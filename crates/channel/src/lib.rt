@@ -7,8 +7,8 @@ ghost use Rattle.channel.specs.Channel.{mixed, put_out};
 /// The sum of two words, which wraps.
 #[tactic(auto, using(crate::proofs::Laws::mixed_is))]
 pub fn mix(a: u32, b: u32) -> u32
-    requires a_bound { a < 8388608 }
-    requires b_bound { b < 8388608 }
+    requires a_in_range { a < 8388608 }
+    requires b_in_range { b < 8388608 }
     ensures { (result ≡ mixed a b) × (result < 8388608) }
 {
     (a + b) % 8388608

@@ -91,7 +91,7 @@ pub fn open(file: &[u8]) -> Option<usize>
 /// the end. Its size may be any number of 32 bits, which a sum of 64 holds.
 #[tactic(auto, unfolding(crate::specs::Walk::reach_of, crate::specs::Chunks::is_whole, crate::specs::Chunks::chunk_at))]
 pub fn chunk_at(file: &[u8], end: usize, at: usize) -> Option<(Chunk, usize)>
-    requires at_le_end { at ≤ end }
+    requires at_before_end { at ≤ end }
     requires end_in_bounds { end ≤ length file.now }
     ensures { result ≡ reach_of file.now end at }
 {

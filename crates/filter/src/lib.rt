@@ -49,10 +49,10 @@ pub struct Poles {
 
 /// The outputs after the sample x has passed.
 pub fn filter(cr: u32, k1: u32, k2: u32, x: i32, p: Poles) -> Poles
-    requires k1_bound { k1 < 65536 }
-    requires k2_bound { k2 < 65536 }
-    requires bits { Bits 18 x }
-    requires pole_bits { PoleBits p }
+    requires k1_in_range { k1 < 65536 }
+    requires k2_in_range { k2 < 65536 }
+    requires x_fits { Bits 18 x }
+    requires poles_fit { PoleBits p }
     ensures { (result ≡ filtered cr k1 k2 x p) × PoleBits result }
 {
     let (k1, k2) = (Coefficient(k1 / 16), Coefficient(k2 / 16));

@@ -81,10 +81,10 @@ fn play(m: &mut Machine, memory: &[u16]) -> u32
 // The turn of voice v. How many words it misses is added to `missing`. The voice's words, the sums
 // and the mask change together, and between them the record is not valid.
 fn turn(m: &mut [u32], v: usize, slow: u32, samples: &Samples, missing: &mut u32)
-    requires m_value { IsTrue (valid m.old) }
-    requires v_bound { v < voice_count }
-    requires slow_value { slow ≡ slice_index m.old slow_word }
-    requires missing_bound { missing.old + 2 < 2 ^ 32 }
+    requires is_valid { IsTrue (valid m.old) }
+    requires is_voice { v < voice_count }
+    requires slow_is_counter { slow ≡ slice_index m.old slow_word }
+    requires missing_fits { missing.old + 2 < 2 ^ 32 }
     ensures m_after { m.new ≡ turn_at samples.now.memory.now v m.old }
     ensures missing_after { missing.new ≡ missing.old + missed_by samples.now.memory.now (voice_of (voice_at m.old v)) }
 {
@@ -100,10 +100,10 @@ fn turn(m: &mut [u32], v: usize, slow: u32, samples: &Samples, missing: &mut u32
 // The record's length and the ranges are clauses here and below: between a turn's writes the record
 // is no `Machine`, and the sides of an addend have the range that `volume::pan` promises of each.
 fn add(m: &mut [u32], addend: Option<Addend>)
-    requires m_len { length m.old ≡ record_words }
-    requires by_index { (i : ℕ) → i < output_values → slice_index m.old (sums_word + i) < 8388608 }
-    requires left { Within 1048576 (as_addend addend).left }
-    requires right { Within 1048576 (as_addend addend).right }
+    requires has_record_length { length m.old ≡ record_words }
+    requires sums_in_range { (i : ℕ) → i < output_values → slice_index m.old (sums_word + i) < 8388608 }
+    requires left_fits { Within 1048576 (as_addend addend).left }
+    requires right_fits { Within 1048576 (as_addend addend).right }
     ensures { m.new ≡ added m.old (as_addend addend).channel (as_addend addend).left (as_addend addend).right }
 {
     let Some(
@@ -126,8 +126,8 @@ fn add(m: &mut [u32], addend: Option<Addend>)
 // One value is added to one sum.
 fn add_to(m: &mut [u32], at: usize, z: i32)
     requires at_in_bounds { at < length m.old }
-    requires at_bound { slice_index m.old at < 8388608 }
-    requires within { Within 1048576 z }
+    requires sum_in_range { slice_index m.old at < 8388608 }
+    requires z_fits { Within 1048576 z }
     ensures { m.new ≡ added_to m.old at z }
 {
     m[at] = channel::mix(m[at], numbers::word_of(23, z));
@@ -145,9 +145,9 @@ fn left_sum(channel: u32) -> usize
 // where the voice does not wait the mask is true already, and costs nothing.
 #[tactic(auto, using(crate::proofs::Steps::signal_enters, crate::proofs::Steps::signal_occupied, crate::proofs::Steps::signal_quiet))]
 fn signal(m: &mut [u32], v: usize, cr: u32)
-    requires m_len { length m.old ≡ record_words }
-    requires v_bound { v < voice_count }
-    requires m_value { waiting_voices m.old ≡ (if flag_of irq_bit cr then with_bit v 1 (slice_index m.old wait_mask_word) else slice_index m.old wait_mask_word) }
+    requires has_record_length { length m.old ≡ record_words }
+    requires is_voice { v < voice_count }
+    requires mask_but_for_voice { waiting_voices m.old ≡ (if flag_of irq_bit cr then with_bit v 1 (slice_index m.old wait_mask_word) else slice_index m.old wait_mask_word) }
     ensures { m.new ≡ signalled (with_mask m.old) v cr }
 {
     if control::flag(control::IRQ, cr) {
@@ -183,8 +183,8 @@ fn take_sums(sums: &mut [u32]) -> [u32; machine::OUTPUT_VALUES]
 
 // Each sum, held, goes to its place in the output.
 fn put_out(sums: &[u32; machine::OUTPUT_VALUES], out: &mut [i32])
-    requires out_len { length out.old ≡ output_values }
-    requires by_index { (i : ℕ) → i < output_values → slice_index sums.now i < 8388608 }
+    requires has_output_length { length out.old ≡ output_values }
+    requires sums_in_range { (i : ℕ) → i < output_values → slice_index sums.now i < 8388608 }
     ensures { out.new ≡ map put_out sums.now }
 {
     // By number: a proof knows nothing of what a `zip` with the values to be changed goes over.

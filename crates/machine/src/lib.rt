@@ -220,8 +220,8 @@ fn is_vector(x: u32) -> bool
 
 // The stray bits of the voices' words j to j + 3 go into the lanes, a word to a lane.
 fn look_at_four(m: &[u32; RECORD_WORDS], j: usize, kept: &[u32; VOICE_WORDS], stray: &mut [u32; 4])
-    requires j_bound { j + 4 ≤ 20 }
-    requires kept_value { kept.now ≡ voice_bits }
+    requires four_in_voice { j + 4 ≤ 20 }
+    requires kept_is_voice_bits { kept.now ≡ voice_bits }
     requires lanes { Lanes stray.old (gathered_kept m.now j) }
     ensures { Lanes stray.new (gathered_kept m.now (j + 4)) }
 {
@@ -235,7 +235,7 @@ fn look_at_four(m: &[u32; RECORD_WORDS], j: usize, kept: &[u32; VOICE_WORDS], st
 // lanes. The last four words keep the same bits, and so do the sums; only the words between have
 // bits of their own. They are eleven, so the last lane takes the first sum twice.
 fn look_at_rest(m: &[u32; RECORD_WORDS], kept: &[u32; SHARED_WORDS], stray: &mut [u32; 4])
-    requires kept_value { kept.now ≡ shared_bits }
+    requires kept_is_shared_bits { kept.now ≡ shared_bits }
     requires lanes { Lanes stray.old (gathered_kept m.now 16) }
     ensures { Lanes stray.new (gathered_kept m.now 20 && sums_kept m.now 4 && shared_kept m.now 4) }
 {
@@ -287,9 +287,9 @@ fn gather_flags(m: &[u32; RECORD_WORDS]) -> u32
 // record is no `Machine`.
 #[tactic(auto, unfolding(crate::specs::Words::with_mask))]
 pub fn mark(m: &mut [u32], v: usize, b: bool)
-    requires m_len { length m.old ≡ record_words }
-    requires v_bound { v < voice_count }
-    requires m_value { waiting_voices m.old ≡ with_bit v (if b then 1 else 0) (slice_index m.old wait_mask_word) }
+    requires has_record_length { length m.old ≡ record_words }
+    requires is_voice { v < voice_count }
+    requires mask_but_for_voice { waiting_voices m.old ≡ with_bit v (if b then 1 else 0) (slice_index m.old wait_mask_word) }
     ensures { m.new ≡ with_mask m.old }
 {
     let mask = m[WAIT_MASK];

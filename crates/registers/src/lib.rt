@@ -164,8 +164,8 @@ fn store(machine: &mut Machine, register: Register, x: u32)
 // too: the record is valid again only then, so both are written here.
 #[tactic(auto, using(machine::proofs::Valid::valid_long, machine::proofs::Valid::stored_long, crate::proofs::Valid::mark_stored, crate::proofs::Valid::kept_stored), unfolding(machine::specs::Words::cut))]
 fn store_word(m: &mut [u32], i: usize, x: u32)
-    requires m_value { IsTrue (valid m.old) }
-    requires i_bound { i < wait_mask_word }
+    requires is_valid { IsTrue (valid m.old) }
+    requires is_before_mask { i < wait_mask_word }
     ensures { m.new ≡ with_mask (slice_set m.old i (cut i x)) }
 {
     let y = x & machine::bits_of(i);

@@ -43,8 +43,8 @@ impl<'a> Samples<'a> {
     // `missing` is lent and not handed back: added up by each caller it took twelve instructions
     // more a voice.
     pub fn interpolate(&self, cr: u32, accum: u32, missing: &mut u32) -> i32
-        requires cr_bound { cr < 65536 }
-        requires missing_bound { missing.old + 2 < 2 ^ 32 }
+        requires cr_in_range { cr < 65536 }
+        requires missing_fits { missing.old + 2 < 2 ^ 32 }
         ensures value { (result ≡ interpolated (fraction accum) (sample_of cr (fetched self.now.memory.now cr accum).first.bits) (sample_of cr (fetched self.now.memory.now cr accum).second.bits)) × Bits 18 result }
         ensures missing_after { missing.new ≡ missing.old + missing_of (fetched self.now.memory.now cr accum) }
     {
@@ -97,8 +97,8 @@ fn tally(word: Option<u16>, missing: &mut u32)
 
 // The word of the memory that is word i of a bank.
 fn place(bank: u32, i: u32) -> usize
-    requires bank_bound { bank < 4 }
-    requires i_bound { i < bank_words }
+    requires is_bank { bank < 4 }
+    requires is_in_bank { i < bank_words }
     ensures { result ≡ bank * bank_words + i }
 {
     (bank * BANK_WORDS + i) as usize
@@ -118,9 +118,9 @@ fn sample_of(cr: u32, w: u16) -> i32
 // The value between two samples, f of 512 parts on from the first. f stands in ACCUM from bit 2 on,
 // so where f is multiplied by 4 the compiler masks ACCUM and shifts nothing.
 fn blend(f: u32, s1: i32, s2: i32) -> i32
-    requires f_bound { f < 512 }
-    requires bits { Bits 16 s1 }
-    requires bits_2 { Bits 16 s2 }
+    requires f_in_range { f < 512 }
+    requires s1_fits { Bits 16 s1 }
+    requires s2_fits { Bits 16 s2 }
     ensures { (result ≡ interpolated f s1 s2) × Bits 18 result }
 {
     4 * s1 + ((4 * f as i32 * (s2 - s1)) >> 9)

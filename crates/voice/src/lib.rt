@@ -39,9 +39,9 @@ pub struct Addend {
 // numbers that go from crate to crate, as the 16 bits of CR and of a level and the 18 of an output:
 // a type of each width would be made where a word is read, and owe the same there, at each call.
 pub fn turn(w: &mut [u32], slow: u32, samples: &Samples, missing: &mut u32) -> Option<Addend>
-    requires w_len { length w.old ≡ voice_words }
+    requires has_voice_length { length w.old ≡ voice_words }
     requires ranges { Ranges (voice_of w.old) }
-    requires missing_bound { missing.old + 2 < 2 ^ 32 }
+    requires missing_fits { missing.old + 2 < 2 ^ 32 }
     ensures takes_turn { TakesTurn samples.now.memory.now slow w.old w.new (as_addend result) }
     ensures running { IsSome result ↔ IsTrue (runs (slice_index w.old cr_word)) }
     ensures missing_after { missing.new ≡ missing.old + missed_by samples.now.memory.now (voice_of w.old) }
@@ -70,8 +70,8 @@ pub fn turn(w: &mut [u32], slow: u32, samples: &Samples, missing: &mut u32) -> O
 // What goes into the filters: the sample that the voice is at, or 0 where it is stopped; such a
 // voice asks for no word, and misses none.
 fn input(w: &Words, samples: &Samples, missing: &mut u32) -> i32
-    requires cr_bound { slice_index w.now cr_word < 65536 }
-    requires missing_bound { missing.old + 2 < 2 ^ 32 }
+    requires cr_in_range { slice_index w.now cr_word < 65536 }
+    requires missing_fits { missing.old + 2 < 2 ^ 32 }
     ensures value { (result ≡ (if runs (slice_index w.now cr_word) then sampled samples.now.memory.now (voice_of w.now) else pos 0)) × Bits 18 result }
     ensures missing_after { missing.new ≡ missing.old + missed_by samples.now.memory.now (voice_of w.now) }
 {
@@ -86,7 +86,7 @@ fn input(w: &Words, samples: &Samples, missing: &mut u32) -> i32
 // that no copy of them is kept.
 fn pass(w: &mut Words, x: i32) -> i32
     requires ranges { Ranges (voice_of w.old) }
-    requires bits { Bits 18 x }
+    requires x_fits { Bits 18 x }
     ensures { Passes x w.old w.new result }
 {
     w[machine::O2N2] = w[machine::O2N1];

@@ -9,8 +9,8 @@ ghost use Rattle.volume.specs.Volume.{panned};
 /// exponent); here the exponent moves the mantissa to the left, so one shift by 5 + 15 stands for
 /// both. The mantissa is taken 16-fold, as it stands in the volume, so the shift is 24.
 pub fn pan(volume: u32, o4: i32) -> i32
-    requires volume_bound { volume < 65536 }
-    requires bits { Bits 18 o4 }
+    requires volume_in_range { volume < 65536 }
+    requires o4_fits { Bits 18 o4 }
     ensures { (result ≡ panned volume o4) × Within 1048576 result }
 {
     let gain = (16 * (256 + volume / 16 % 256)) << (volume / 4096);

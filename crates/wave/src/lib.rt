@@ -114,7 +114,7 @@ pub fn parse(file: &[u8]) -> Option<Found>
 
 // One pass over the chunks.
 fn collect(file: &[u8], end: usize) -> Option<Found>
-    requires le_end { first_chunk ≤ end }
+    requires first_before_end { first_chunk ≤ end }
     requires end_in_bounds { end ≤ length file.now }
     ensures { result ≡ collected_of (chunks_from end file.now end first_chunk) }
 {
@@ -138,7 +138,7 @@ fn collect(file: &[u8], end: usize) -> Option<Found>
 #[tactic(auto, using(layout::proofs::Endian::little_2_at), unfolding(crate::specs::Wave::is_mono16))]
 pub fn is_mono16(file: &[u8], c: Chunk) -> bool
     requires in_file { InFile file.now c }
-    requires le_size { format_bytes ≤ c.size }
+    requires format_is_whole { format_bytes ≤ c.size }
     ensures { result ≡ is_mono16 file.now c }
 {
     let place = c.place;
@@ -165,7 +165,7 @@ fn is_sampler_short(file: &[u8], c: Chunk) -> bool
 #[tactic(auto, using(layout::proofs::Endian::little_4_at), unfolding(crate::specs::Wave::is_sampler_short, crate::specs::Wave::loop_in))]
 pub fn first_loop(file: &[u8], k: Kept) -> Option<Loop>
     requires in_file { FirstInFile file.now k }
-    requires k_value { IsFalse (first_sampler_short_of file.now k) }
+    requires sampler_is_whole { IsFalse (first_sampler_short_of file.now k) }
     ensures { result ≡ loop_of_kept file.now k }
 {
     let place = k.first()?.place;

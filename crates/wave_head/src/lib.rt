@@ -26,8 +26,8 @@ pub fn riff_head(bytes: u32) -> [u8; 12]
 /// PCM of 16 bits: so many channels, and samples a second.
 #[tactic(auto, using(layout::proofs::Endian::little_bytes_2, layout::proofs::Endian::little_bytes_4), unfolding(crate::specs::Head::format_chunk, layout::specs::Bytes::little, layout::specs::Bytes::little_bytes))]
 pub fn format_chunk(channels: u16, rate: u32) -> [u8; 24]
-    requires channels_bound { channels < 32768 }
-    requires rate_bound { 2 * channels * rate < 4294967296 }
+    requires channels_fit { channels < 32768 }
+    requires rate_fits { 2 * channels * rate < 4294967296 }
     ensures { result ≡ format_chunk channels rate }
 {
     let c = channels.to_le_bytes();

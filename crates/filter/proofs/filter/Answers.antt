@@ -20,8 +20,8 @@ in_a_row cr K₁ K₂ x p e₁ e₂ e₃ e₄ =
 pub returns : goal.returns
 returns c =
     let a = c.args in
-    let o = c.requires.pole_bits in
-    let x = (held w32 tt c.requires.bits).is in
+    let o = c.requires.poles_fit in
+    let x = (held w32 tt c.requires.x_fits).is in
     let o1 = (held w32 tt o.o1).is in
     let o2 = (held w32 tt o.o2).is in
     let o3 = (held w32 tt o.o3).is in

@@ -19,16 +19,16 @@ next_sum m c z = added_to_other m (sums_word + 2 * c) (sums_word + 2 * c + 1) z 
 pub returns-in_default : goal.returns-in_default
 returns-in_default c = rw c.in_default.is (sym (added_none _ _ _ _ (omega arith)))
 
-pub add_to-requires-then-channel-lt-CHANNELS-clause-at_bound : goal.add_to-requires-then-channel-lt-CHANNELS-clause-at_bound
-add_to-requires-then-channel-lt-CHANNELS-clause-at_bound c =
+pub add_to-requires-then-channel-lt-CHANNELS-clause-sum_in_range : goal.add_to-requires-then-channel-lt-CHANNELS-clause-sum_in_range
+add_to-requires-then-channel-lt-CHANNELS-clause-sum_in_range c =
     let channel = c.in-Some.field-0.channel in
     rw (c.add_to.ensures, c.left_sum-at.ensures)
-    (subst (λ (x : ℕ). x < 8388608) (sym (next_sum c.args.m.now channel _)) (c.requires.by_index (2 * channel + 1) (omega arith)))
+    (subst (λ (x : ℕ). x < 8388608) (sym (next_sum c.args.m.now channel _)) (c.requires.sums_in_range (2 * channel + 1) (omega arith)))
 
 pub returns-then-channel-lt-CHANNELS : goal.returns-then-channel-lt-CHANNELS
 returns-then-channel-lt-CHANNELS c =
-    let left = ranged w32 tt (rw c.in-Some.is at c.requires.left) in
-    let right = ranged w32 tt (rw c.in-Some.is at c.requires.right) in
+    let left = ranged w32 tt (rw c.in-Some.is at c.requires.left_fits) in
+    let right = ranged w32 tt (rw c.in-Some.is at c.requires.right_fits) in
     rw c.in-Some.is
     (rw (c.add_to-then-channel-lt-CHANNELS.ensures, c.add_to.ensures, left.is, right.is, c.left_sum-at.ensures) (sym (added_in _ _ _ _ c.if-channel-lt-CHANNELS.true)))
 

@@ -15,8 +15,8 @@ pub invariant_of-m : goal.invariant_of-m
 unfolding silenced
 invariant_of-m c = let s = silenced_sound _ (sound _ c.args.m.now.sound) in record { whole = rw c.take_sums-sums.ensures.1 s.size; sound = rw c.take_sums-sums.ensures.1 (is_valid _ s) }
 
-pub put_out-requires-clause-by_index : goal.put_out-requires-clause-by_index
-put_out-requires-clause-by_index c =
+pub put_out-requires-clause-sums_in_range : goal.put_out-requires-clause-sums_in_range
+put_out-requires-clause-sums_in_range c =
     rw c.take_sums-sums.ensures.0
     (λ i k. rw (get_or-take 12 (drop sums_word c.args.m.now.words.now) i 0 k, get_or-drop sums_word c.args.m.now.words.now i 0) (sum_small _ (in_range (sound _ c.args.m.now.sound)) i k))
 

@@ -31,17 +31,17 @@ pub loop-v-init : goal.loop-v-init
 unfolding turns missed_in_turns sum
 loop-v-init c = record { same = refl; turned = refl; missed = refl }
 
-pub turn-requires-clause-v_bound : goal.turn-requires-clause-v_bound
-turn-requires-clause-v_bound c = omega (arith, active_le _ (sound _ c.args.m.now.sound))
+pub turn-requires-clause-is_voice : goal.turn-requires-clause-is_voice
+turn-requires-clause-is_voice c = omega (arith, active_le _ (sound _ c.args.m.now.sound))
 
-pub turn-requires-clause-slow_value : goal.turn-requires-clause-slow_value
-turn-requires-clause-slow_value c =
+pub turn-requires-clause-slow_is_counter : goal.turn-requires-clause-slow_is_counter
+turn-requires-clause-slow_is_counter c =
     let s = sound _ c.args.m.now.sound in
     let l = c.loop-v in
     sym (ap (λ (x : List ℕ). get_or x slow_word 0) l.invariant.turned ∙ slow_stays (turned c.args.memory.now l.v (omega (arith, active_le _ s)) s))
 
-pub turn-requires-clause-missing_bound : goal.turn-requires-clause-missing_bound
-turn-requires-clause-missing_bound c =
+pub turn-requires-clause-missing_fits : goal.turn-requires-clause-missing_fits
+turn-requires-clause-missing_fits c =
     omega (arith, c.loop-v.invariant.missed, missed_in-turns_most c.args.memory.now c.loop-v.v c.args.m.now.words.now, active_le _ (sound _ c.args.m.now.sound))
 
 pub invariant_of-m : goal.invariant_of-m

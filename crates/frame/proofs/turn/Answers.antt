@@ -34,39 +34,39 @@ put_back : (memory m : List ℕ) (v : ℕ) (after : List ℕ) (a : Addend) → T
 put_back memory m v after a p s h = back_range memory m v (part v) after a (twenty v) p s h
 
 pub slice_bounds-turn-end : goal.slice_bounds-turn-end
-slice_bounds-turn-end c = omega (arith, (sound c.args.m.now c.requires.m_value).size, c.requires.v_bound)
+slice_bounds-turn-end c = omega (arith, (sound c.args.m.now c.requires.is_valid).size, c.requires.is_voice)
 
 pub turn-addend-requires-clause-ranges : goal.turn-addend-requires-clause-ranges
 unfolding voice_at
 turn-addend-requires-clause-ranges c =
     let m = c.args.m.now in
     let v = c.args.v in
-    rw (twenty v) (ranges_of (voice_at m v) (λ j k. range_voice m (in_range (sound m c.requires.m_value)) v j c.requires.v_bound k))
+    rw (twenty v) (ranges_of (voice_at m v) (λ j k. range_voice m (in_range (sound m c.requires.is_valid)) v j c.requires.is_voice k))
 
-pub add-requires-clause-m_len : goal.add-requires-clause-m_len
-add-requires-clause-m_len c = (put_back _ _ _ _ _ (at_counter c.args.m.now c.requires.slow_value c.turn-addend.ensures.takes_turn) (sound _ c.requires.m_value) c.requires.v_bound).size
+pub add-requires-clause-has_record_length : goal.add-requires-clause-has_record_length
+add-requires-clause-has_record_length c = (put_back _ _ _ _ _ (at_counter c.args.m.now c.requires.slow_is_counter c.turn-addend.ensures.takes_turn) (sound _ c.requires.is_valid) c.requires.is_voice).size
 
-pub add-requires-clause-by_index : goal.add-requires-clause-by_index
-add-requires-clause-by_index c = sum_small _ (put_back _ _ _ _ _ (at_counter c.args.m.now c.requires.slow_value c.turn-addend.ensures.takes_turn) (sound _ c.requires.m_value) c.requires.v_bound)
+pub add-requires-clause-sums_in_range : goal.add-requires-clause-sums_in_range
+add-requires-clause-sums_in_range c = sum_small _ (put_back _ _ _ _ _ (at_counter c.args.m.now c.requires.slow_is_counter c.turn-addend.ensures.takes_turn) (sound _ c.requires.is_valid) c.requires.is_voice)
 
-pub signal-requires-clause-m_len : goal.signal-requires-clause-m_len
-signal-requires-clause-m_len c =
-    c.add.auto.m ∙ (put_back _ _ _ _ _ (at_counter c.args.m.now c.requires.slow_value c.turn-addend.ensures.takes_turn) (sound _ c.requires.m_value) c.requires.v_bound).size
+pub signal-requires-clause-has_record_length : goal.signal-requires-clause-has_record_length
+signal-requires-clause-has_record_length c =
+    c.add.auto.m ∙ (put_back _ _ _ _ _ (at_counter c.args.m.now c.requires.slow_is_counter c.turn-addend.ensures.takes_turn) (sound _ c.requires.is_valid) c.requires.is_voice).size
 
 -- the mask lacks the voice's flag at most
-pub signal-requires-clause-m_value : goal.signal-requires-clause-m_value
-signal-requires-clause-m_value c =
+pub signal-requires-clause-mask_but_for_voice : goal.signal-requires-clause-mask_but_for_voice
+signal-requires-clause-mask_but_for_voice c =
     rw c.add.ensures
-    (mask_lacks c.args.samples.now.memory.now c.args.m.now c.args.v (part c.args.v) _ _ (twenty c.args.v) (at_counter c.args.m.now c.requires.slow_value c.turn-addend.ensures.takes_turn)
-    (sound _ c.requires.m_value) c.requires.v_bound)
+    (mask_lacks c.args.samples.now.memory.now c.args.m.now c.args.v (part c.args.v) _ _ (twenty c.args.v) (at_counter c.args.m.now c.requires.slow_is_counter c.turn-addend.ensures.takes_turn)
+    (sound _ c.requires.is_valid) c.requires.is_voice)
 
 pub returns-clause-m_after : goal.returns-clause-m_after
 unfolding voice_at
 returns-clause-m_after c =
     c.signal.ensures
     ∙ rw c.add.ensures
-    (turn_taken c.args.samples.now.memory.now c.args.m.now c.args.v (part c.args.v) _ _ (twenty c.args.v) (at_counter c.args.m.now c.requires.slow_value c.turn-addend.ensures.takes_turn)
-    (sound _ c.requires.m_value) c.requires.v_bound)
+    (turn_taken c.args.samples.now.memory.now c.args.m.now c.args.v (part c.args.v) _ _ (twenty c.args.v) (at_counter c.args.m.now c.requires.slow_is_counter c.turn-addend.ensures.takes_turn)
+    (sound _ c.requires.is_valid) c.requires.is_voice)
 
 pub returns-clause-missing_after : goal.returns-clause-missing_after
 unfolding voice_at

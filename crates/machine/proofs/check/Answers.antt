@@ -22,9 +22,9 @@ pub loop-g-init : goal.loop-g-init
 unfolding gathered_kept clear
 loop-g-init c = record { four = refl; tell = refl }
 
-pub look_at_rest-requires-clause-kept_value : goal.look_at_rest-requires-clause-kept_value
+pub look_at_rest-requires-clause-kept_is_shared_bits : goal.look_at_rest-requires-clause-kept_is_shared_bits
 unfolding shared_bits
-look_at_rest-requires-clause-kept_value c = refl
+look_at_rest-requires-clause-kept_is_shared_bits c = refl
 
 -- the stray bits of all words and of the mask: none, or one, and the record's own test says the same
 stray : (m s : List ℕ) (y : ℕ) → Lanes s (gathered_kept m 20 && sums_kept m 4 && shared_kept m 4) → y ≡ waiting_voices m

@@ -11,4 +11,4 @@ loop-l-preserved c =
     let e : c.args.j + (l + 1) ≡ j + 1 = omega arith in
     rw e
     (one_more_gathered c.args.m.now j l _ _ c.loop-l.invariant (omega arith) c.gather-all.ensures
-    (ap (λ (w : List ℕ). get_or w j 0) c.requires.kept_value))
+    (ap (λ (w : List ℕ). get_or w j 0) c.requires.kept_is_voice_bits))

@@ -18,4 +18,4 @@ loop-l-preserved c =
     let e : 16 + (l + 1) ≡ 16 + l + 1 = omega arith in
     rw e
     (one_more_of_all m c.args.kept.now (16 + l) l _ _ _ c.loop-l.invariant (omega arith) c.gather-all.ensures (last_bits l (omega arith))
-    (three_sums m l) c.requires.kept_value)
+    (three_sums m l) c.requires.kept_is_shared_bits)

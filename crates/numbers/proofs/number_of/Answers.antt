@@ -33,20 +33,20 @@ less n w h e l = rw e.is
     (sub (nat w32 16777216 ((w + 2 ^ (n - 1)) % 2 ^ n) tt (omega arith)) (nat w32 8388608 (2 ^ (n - 1)) tt e.small) tt))
 
 pub overflow_mul-result : goal.overflow_mul-result
-overflow_mul-result c = omega (arith, half c.args.n c.requires.n_nonzero.0 c.requires.n_nonzero.1)
+overflow_mul-result c = omega (arith, half c.args.n c.requires.is_width.0 c.requires.is_width.1)
 
 pub overflow_cast-result : goal.overflow_cast-result
 overflow_cast-result c =
-    let h = half c.args.n c.requires.n_nonzero.0 c.requires.n_nonzero.1 in
+    let h = half c.args.n c.requires.is_width.0 c.requires.is_width.1 in
     let p : 0 < 2 * ((1 * 2 ^ (c.args.n - 1)) % 4294967296) = omega arith in
     let r = mod-lt (c.args.w + (1 * 2 ^ (c.args.n - 1)) % 4294967296) p in
     record { sfits = omega (arith, r) }
 
 pub overflow_cast-result-2 : goal.overflow_cast-result-2
-overflow_cast-result-2 c = let h = half c.args.n c.requires.n_nonzero.0 c.requires.n_nonzero.1 in record { sfits = omega arith }
+overflow_cast-result-2 c = let h = half c.args.n c.requires.is_width.0 c.requires.is_width.1 in record { sfits = omega arith }
 
 pub overflow_sub-result : goal.overflow_sub-result
-overflow_sub-result c = (less _ _ _ (half c.args.n c.requires.n_nonzero.0 c.requires.n_nonzero.1) c.requires.w_bound).asks
+overflow_sub-result c = (less _ _ _ (half c.args.n c.requires.is_width.0 c.requires.is_width.1) c.requires.w_fits).asks
 
 pub returns : goal.returns
-returns c = (less _ _ _ (half c.args.n c.requires.n_nonzero.0 c.requires.n_nonzero.1) c.requires.w_bound).num.is
+returns c = (less _ _ _ (half c.args.n c.requires.is_width.0 c.requires.is_width.1) c.requires.w_fits).num.is

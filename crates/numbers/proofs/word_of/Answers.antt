@@ -19,6 +19,6 @@ moved n z h k =
 pub returns : goal.returns
 returns c =
     let n = c.args.n in
-    let sum = add (arg c.ranges.z c.requires.within) (lit (pos 536870912)) tt in
-    let is = ap (λ (z : ℤ). nat_abs z % 2 ^ n) sum.num.is ∙ moved n c.args.z c.requires.n_bound c.requires.within in
-    rw (bit_at n c.requires.n_bound) (is, subst (λ (w : ℕ). w < 2 ^ n) (sym is) (word_lt n c.args.z))
+    let sum = add (arg c.ranges.z c.requires.z_fits) (lit (pos 536870912)) tt in
+    let is = ap (λ (z : ℤ). nat_abs z % 2 ^ n) sum.num.is ∙ moved n c.args.z c.requires.is_width c.requires.z_fits in
+    rw (bit_at n c.requires.is_width) (is, subst (λ (w : ℕ). w < 2 ^ n) (sym is) (word_lt n c.args.z))

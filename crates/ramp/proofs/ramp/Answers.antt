@@ -22,8 +22,8 @@ limited c = ret w32 c.hold.type_inv (c.hold.ensures ∙ ap (held (pos 0) (pos 65
 pub overflow_add-value : goal.overflow_add-value
 overflow_add-value c = (moved c).asks
 
-pub word_of-requires-clause-within : goal.word_of-requires-clause-within
-word_of-requires-clause-within c = subst (Within 536870912) (sym (limited c).is) (widen tt (limited c).size)
+pub word_of-requires-clause-z_fits : goal.word_of-requires-clause-z_fits
+word_of-requires-clause-z_fits c = subst (Within 536870912) (sym (limited c).is) (widen tt (limited c).size)
 
 pub returns : goal.returns
 unfolding ramped

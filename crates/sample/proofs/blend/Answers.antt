@@ -20,17 +20,17 @@ four_less f d =
 
 pub overflow_add-result : goal.overflow_add-result
 overflow_add-result c =
-    let x = held w32 tt c.requires.bits in
+    let x = held w32 tt c.requires.s1_fits in
     let f = mul (lit (pos 4)) (nat w32 511 c.args.f tt (omega arith)) tt in
-    let p = mul f.num (sub (held w32 tt c.requires.bits_2) x tt).num tt in
+    let p = mul f.num (sub (held w32 tt c.requires.s2_fits) x tt).num tt in
     (add (mul (lit (pos 4)) x tt).num (shr 512 p.num tt).num tt).asks
 
 pub returns : goal.returns
 unfolding interpolated
 returns c =
-    let x = held w32 tt c.requires.bits in
+    let x = held w32 tt c.requires.s1_fits in
     let f = mul (lit (pos 4)) (nat w32 511 c.args.f tt (omega arith)) tt in
-    let p = mul f.num (sub (held w32 tt c.requires.bits_2) x tt).num tt in
+    let p = mul f.num (sub (held w32 tt c.requires.s2_fits) x tt).num tt in
     let r = add (mul (lit (pos 4)) x tt).num (shr 512 p.num tt).num tt in
     let e = r.num.is ∙ ap (λ (z : ℤ). pos 4 *ℤ c.args.s1 +ℤ z) (four_less c.args.f (c.args.s2 -ℤ c.args.s1)) in
-    (e, subst (Bits 18) (sym e) (interpolated-bits _ _ _ c.requires.f_bound c.requires.bits c.requires.bits_2))
+    (e, subst (Bits 18) (sym e) (interpolated-bits _ _ _ c.requires.f_in_range c.requires.s1_fits c.requires.s2_fits))

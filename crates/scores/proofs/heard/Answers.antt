@@ -46,8 +46,8 @@ overflow_add-sum-5 c = (six c).asks
 pub overflow_cast-sum : goal.overflow_cast-sum
 overflow_cast-sum c = (cast {w' = w32} (shr 16 (six c).num tt).num tt).asks
 
-pub word_of-requires-clause-within : goal.word_of-requires-clause-within
-word_of-requires-clause-within c =
+pub word_of-requires-clause-z_fits : goal.word_of-requires-clause-z_fits
+word_of-requires-clause-z_fits c =
     let z = floor_div (c.args.a +ℤ c.args.b +ℤ c.args.c +ℤ c.args.d +ℤ c.args.e +ℤ c.args.f) 16 in
     let h : Bits 16 (held (minus 32768) (pos 32767) z) = record { bits = omega (arith, held_mag 32767 z) } in
     subst (Within 536870912) (sym (value c)) (widen tt (of_bits h))

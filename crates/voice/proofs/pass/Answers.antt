@@ -20,7 +20,7 @@ returns c =
     let p = c.filter-p.result in
     let b = c.filter-p.ensures.1 in
     let e : p ≡ passing x v =
-    c.filter-p.ensures.0 ∙ rw ((held w32 tt c.requires.bits).is, c.last_outputs.ensures.0) (back_passing w c.told-w x) in
+    c.filter-p.ensures.0 ∙ rw ((held w32 tt c.requires.x_fits).is, c.last_outputs.ensures.0) (back_passing w c.told-w x) in
     let o4 = (held w32 tt b.o4).is in
     record {
       words =

@@ -39,11 +39,11 @@ ranges_lent e r = subst (λ (l : List ℕ). Ranges (voice_of l)) (sym e) r
 turn_lent : {memory : List ℕ} {slow : ℕ} {w u after : List ℕ} {a : Addend} → u ≡ w → TakesTurn memory slow u after a → TakesTurn memory slow w after a
 turn_lent {memory} {slow} {w} {u} {after} {a} e t = subst (λ (l : List ℕ). TakesTurn memory slow l after a) e t
 
-pub pan-left-requires-clause-volume_bound : goal.pan-left-requires-clause-volume_bound
-pan-left-requires-clause-volume_bound c = (leveled _ _ c.pass-o4.ensures.words (ranges_lent c.in-Some.ensures.cases.same c.requires.ranges)).lvol
+pub pan-left-requires-clause-volume_in_range : goal.pan-left-requires-clause-volume_in_range
+pan-left-requires-clause-volume_in_range c = (leveled _ _ c.pass-o4.ensures.words (ranges_lent c.in-Some.ensures.cases.same c.requires.ranges)).lvol
 
-pub pan-right-requires-clause-volume_bound : goal.pan-right-requires-clause-volume_bound
-pan-right-requires-clause-volume_bound c = (leveled _ _ c.pass-o4.ensures.words (ranges_lent c.in-Some.ensures.cases.same c.requires.ranges)).rvol
+pub pan-right-requires-clause-volume_in_range : goal.pan-right-requires-clause-volume_in_range
+pan-right-requires-clause-volume_in_range c = (leveled _ _ c.pass-o4.ensures.words (ranges_lent c.in-Some.ensures.cases.same c.requires.ranges)).rvol
 
 pub step-requires : goal.step-requires
 step-requires c = rw (← control_kept _ _ c.pass-o4.ensures.words) (ranges_lent c.in-Some.ensures.cases.same c.requires.ranges).cr

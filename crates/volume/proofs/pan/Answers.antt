@@ -17,8 +17,8 @@ moved VOL h = mod-eq_of_lt (omega (arith, gain_le VOL h))
 -- the upper bits of the output, times that
 product : (c : goal.After-from-2) → Done w64 (32769 * (8176 * 32768)) (floor_div c.args.o4 4 *ℤ pos (gain c.args.volume)) (to_z w64 (of_z w64 c.from.result) *ℤ to_z w64 (of_z w64 c.from-2.result))
 product c =
-    let upper = (shr 4 (held w32 tt c.requires.bits) tt).num in
-    let h = c.requires.volume_bound in
+    let upper = (shr 4 (held w32 tt c.requires.o4_fits) tt).num in
+    let h = c.requires.volume_in_range in
     mul
     (ret w64 c.from.type_inv (c.from.ensures ∙ upper.is) upper.size)
     (ret w64 c.from-2.type_inv (c.from-2.ensures ∙ ap pos (moved c.args.volume h)) (of_pos (gain c.args.volume) (gain_le c.args.volume h)))
@@ -34,4 +34,4 @@ pub returns : goal.returns
 unfolding panned
 returns c =
     let r = (cast {w' = w32} (shr 16777216 (product c).num tt).num tt).num in
-    (r.is ∙ one_division c.args.volume c.requires.volume_bound (floor_div c.args.o4 4), subst (Within 1048576) (sym r.is) (widen tt r.size))
+    (r.is ∙ one_division c.args.volume c.requires.volume_in_range (floor_div c.args.o4 4), subst (Within 1048576) (sym r.is) (widen tt r.size))

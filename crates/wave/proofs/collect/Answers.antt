@@ -10,7 +10,7 @@ pub loop-at-init : goal.loop-at-init
 unfolding kept_of named
 loop-at-init c =
     let e = c.default-found.ensures in
-    begun _ _ c.default-found.result (rw (e.0, e.1.0, e.1.1)) c.requires.le_end
+    begun _ _ c.default-found.result (rw (e.0, e.1.0, e.1.1)) c.requires.first_before_end
 
 pub returns-in_err-chunk : goal.returns-in_err-chunk
 returns-in_err-chunk c =

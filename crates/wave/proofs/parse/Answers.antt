@@ -9,8 +9,8 @@ returns-in_err-end c =
     let n = no_header _ _ c.open.ensures c.in_err-end.was in
     search (rules, n)
 
-pub collect-requires-clause-le_end : goal.collect-requires-clause-le_end
-collect-requires-clause-le_end c = (upto_within _ _ c.open.ensures _ c.in_ok-end.was).0
+pub collect-requires-clause-first_before_end : goal.collect-requires-clause-first_before_end
+collect-requires-clause-first_before_end c = (upto_within _ _ c.open.ensures _ c.in_ok-end.was).0
 
 pub collect-requires-clause-end_in_bounds : goal.collect-requires-clause-end_in_bounds
 collect-requires-clause-end_in_bounds c = (upto_within _ _ c.open.ensures _ c.in_ok-end.was).1

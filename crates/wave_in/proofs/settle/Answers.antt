@@ -21,8 +21,8 @@ is_mono16-requires-clause-in_file c =
     let g = ready c.args.room c.parse.ensures (omega arith) c.ok_or.ensures.value c.in_ok-found.was c.format_and_data.ensures c.ok_or-2.ensures.value c.in_ok-format.was in
     format_in g
 
-pub is_mono16-requires-clause-le_size : goal.is_mono16-requires-clause-le_size
-is_mono16-requires-clause-le_size c =
+pub is_mono16-requires-clause-format_is_whole : goal.is_mono16-requires-clause-format_is_whole
+is_mono16-requires-clause-format_is_whole c =
     let g = ready c.args.room c.parse.ensures (omega arith) c.ok_or.ensures.value c.in_ok-found.was c.format_and_data.ensures c.ok_or-2.ensures.value c.in_ok-format.was in
     format_long g
 
@@ -36,8 +36,8 @@ first_loop-looped-requires-clause-in_file c =
     let g = ready c.args.room c.parse.ensures (omega arith) c.ok_or.ensures.value c.in_ok-found.was c.format_and_data.ensures c.ok_or-2.ensures.value c.in_ok-format.was in
     sampler_in g
 
-pub first_loop-looped-requires-clause-k_value : goal.first_loop-looped-requires-clause-k_value
-first_loop-looped-requires-clause-k_value c =
+pub first_loop-looped-requires-clause-sampler_is_whole : goal.first_loop-looped-requires-clause-sampler_is_whole
+first_loop-looped-requires-clause-sampler_is_whole c =
     let g = ready c.args.room c.parse.ensures (omega arith) c.ok_or.ensures.value c.in_ok-found.was c.format_and_data.ensures c.ok_or-2.ensures.value c.in_ok-format.was in
     sampler_long g
 
