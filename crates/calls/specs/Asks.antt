@@ -1,7 +1,8 @@
 -- A call as a host hands it over, with what it lends beside it. Assumes nothing.
 use Rattle.answer.specs.Answer.{Answer}
 use Rattle.std.specs.Prelude.{ℕ, ◌≡◌, List, ℤ}
-use Rattle.calls.specs.Calls.{Call, Reset, Write, Read, SetPot, Waiting, Frame, answer_to, after, given_by, output_from}
+use Rattle.calls.specs.Calls.{Call, Reset, Write, Read, SetPot, Waiting, Frame, answer_to, after}
+use Rattle.calls.specs.Calls.{given_by, output_from}
 use Rattle.calls.specs.declared.Ask.{Ask}
 
 abbrev pub call_of : Ask → List ℕ → List ℤ → Call
@@ -22,7 +23,8 @@ output_of Ask.Waiting m memory out = out
 output_of Ask.Frame m memory out = output_from m (Frame memory out)
 
 -- what a call promises, whichever it is
-pub record Performs (m memory : List ℕ) (out : List ℤ) (ask : Ask) (answer : Answer) (given : ℕ) (later : List ℕ) (sound : List ℤ) : Type 0 where
+pub record Performs (m memory : List ℕ) (out : List ℤ) (ask : Ask) (answer : Answer) (given : ℕ)
+    (later : List ℕ) (sound : List ℤ) : Type 0 where
   pub answers : answer ≡ answer_to m (call_of ask memory out)
   pub gives : given ≡ given_by m (call_of ask memory out)
   pub leaves : later ≡ after m (call_of ask memory out)

@@ -1,14 +1,17 @@
--- A call on a record, and a run of calls one after the other: what each answers, gives and puts out, and the record that it leaves. Every theorem
--- about more than one call speaks of these.
--- In order: a call; what it answers; what it leaves; what it gives beside its answer; what it puts out; a run. Assumes nothing.
+-- A call on a record, and a run of calls one after the other: what each answers, gives and puts
+-- out, and the record that it leaves. Every theorem about more than one call speaks of these.
+-- In order: a call; what it answers; what it leaves; what it gives beside its answer; what it puts
+-- out; a run. Assumes nothing.
 use Rattle.answer.specs.Answer.{Answer}
 use Rattle.std.specs.Prelude.{ℕ, List, [], ◌∷◌, ◌++◌, ℤ}
 use Rattle.machine.specs.Reset.{reset_answer, reset_record}
 use Rattle.machine.specs.Waiting.{waiting_answer, mask_given}
-use Rattle.registers.specs.Access.{byte_answer, write_record, read_record, read_byte, pot_answer, pot_record}
+use Rattle.registers.specs.Access.{byte_answer, write_record, read_record, read_byte, pot_answer}
+use Rattle.registers.specs.Access.{pot_record}
 use Rattle.frame.specs.Frame.{frame_answer, frame_record, frame_output, frame_missing}
 
--- a call: a write has an address and a byte, a read an address; `Waiting` asks which voices wait; a frame is lent sample memory and an output
+-- a call: a write has an address and a byte, a read an address; `Waiting` asks which voices wait; a
+-- frame is lent sample memory and an output
 pub data Call : Type 0 where
   Reset : Call
   Write : ℕ → ℕ → Call
@@ -34,7 +37,8 @@ after m (SetPot p) = pot_record m p
 after m Waiting = m
 after m (Frame memory out) = frame_record m memory out
 
--- the number that it gives beside its answer: a read its byte, `Waiting` the mask, a frame how many words were missing, another call 0
+-- the number that it gives beside its answer: a read its byte, `Waiting` the mask, a frame how many
+-- words were missing, another call 0
 unfoldable pub given_by : List ℕ → Call → ℕ
 given_by m Reset = 0
 given_by m (Write a b) = 0

@@ -1,4 +1,5 @@
--- The calls by which a plain host writes one register of a voice whole. What they leave is proofs/WholeWrite. Assumes nothing.
+-- The calls by which a plain host writes one register of a voice whole. What they leave is
+-- proofs/WholeWrite. Assumes nothing.
 use Rattle.std.specs.Prelude.{List, [], ◌∷◌, ℕ, ◌+◌, ◌*◌}
 use Rattle.registers.specs.Registers.{byte_of}
 use Rattle.registers.specs.Named.{page_for, register_for}

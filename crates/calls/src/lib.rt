@@ -23,7 +23,8 @@ pub enum Ask {
 /// sample memory and the output.
 // 0 and no Option: that is `given_by`, which is a number for every call.
 pub fn perform(m: &mut [u32], ask: Ask, memory: &[u16], out: &mut [i32]) -> Result<u32, Refusal>
-    ensures { Performs m.old memory.now out.old ask (answer_of result) (value_or 0 result) m.new out.new }
+    ensures { Performs m.old memory.now out.old ask (answer_of result)
+        (value_or 0 result) m.new out.new }
 {
     match ask {
         Ask::Reset => machine::reset(m).map(|()| 0),

@@ -1,4 +1,5 @@
--- The sum of a channel, a word of 23 bits in two's complement: how it adds up, and what it puts out. Assumes nothing.
+-- The sum of a channel, a word of 23 bits in two's complement: how it adds up, and what it puts
+-- out. Assumes nothing.
 use Rattle.std.specs.Prelude.{ℕ, ℤ, pos, ◌+ℤ◌}
 use Rattle.numbers.specs.Numbers.{signed, word, held, minus}
 

@@ -1,15 +1,19 @@
--- The code chart: the bytes of the text that the chart program writes for the bytes of its input, in ASCII.
--- In order: a number in decimal; the line of a sample; the lines of an input; the chart; what a call that is lent an output
--- answers and leaves there; and what the steps on the way promise each other. Assumes nothing.
-use Rattle.std.specs.Prelude.{ℕ, zero, suc, ◌+◌, ◌*◌, ◌/◌, ◌%◌, ◌≡◌, if◌then◌else◌, List, [], ◌∷◌, ◌++◌, nat_lt, ℤ, pos, negsuc, length, drop, Option, None, Some}
+-- The code chart: the bytes of the text that the chart program writes for the bytes of its input,
+-- in ASCII. In order: a number in decimal; the line of a sample; the lines of an input; the chart;
+-- what a call that is lent an output answers and leaves there; and what the steps on the way
+-- promise each other. Assumes nothing.
+use Rattle.std.specs.Prelude.{ℕ, zero, suc, ◌+◌, ◌*◌, ◌/◌, ◌%◌, ◌≡◌, if◌then◌else◌, List, [], ◌∷◌}
+use Rattle.std.specs.Prelude.{◌++◌, nat_lt, ℤ, pos, negsuc, length, drop, Option, None, Some}
 use Rattle.std.proofs.lemmas.List.Edits.{sets}
 use Rattle.numbers.specs.Numbers.{signed}
 use Rattle.codes.specs.Codes.{value_of, code_of}
 
--- n in decimal with no zeros in front, in at most k digits: the digits of n / 10, where that is not 0, and then the last
+-- n in decimal with no zeros in front, in at most k digits: the digits of n / 10, where that is not
+-- 0, and then the last
 unfoldable pub decimal_in : ℕ → ℕ → List ℕ
 decimal_in zero n = []
-decimal_in (suc k) n = if nat_lt n 10 then (48 + n) ∷ [] else decimal_in k (n / 10) ++ (48 + n % 10) ∷ []
+decimal_in (suc k) n =
+    if nat_lt n 10 then (48 + n) ∷ [] else decimal_in k (n / 10) ++ (48 + n % 10) ∷ []
 
 -- n in decimal: five digits hold every number of a chart
 abbrev pub decimal : ℕ → List ℕ
@@ -20,9 +24,11 @@ abbrev pub number : ℤ → List ℕ
 number (pos n) = decimal n
 number (negsuc n) = 45 ∷ decimal (suc n)
 
--- the line of a sample: the sample, its code and the code's value, with a space (32) between and a line end (10)
+-- the line of a sample: the sample, its code and the code's value, with a space (32) between and a
+-- line end (10)
 unfoldable pub line : ℤ → List ℕ
-line s = number s ++ (32 ∷ number (pos (code_of s))) ++ (32 ∷ number (value_of (code_of s))) ++ (10 ∷ [])
+line s =
+    number s ++ (32 ∷ number (pos (code_of s))) ++ (32 ∷ number (value_of (code_of s))) ++ (10 ∷ [])
 
 -- "odd byte" and "too long", each with its line end
 abbrev pub odd_byte : List ℕ
@@ -43,14 +49,18 @@ chart_of input = if nat_lt 65536 (length input) then too_long else lines input
 
 -- ---- a call that is lent an output
 
--- The output must have nine bytes for each byte of input, which hold any chart: the longest line of a pair has 18, and that of
--- an odd byte 9. Otherwise the call answers none, and leaves the output as it was.
+-- The output must have nine bytes for each byte of input, which hold any chart: the longest line of
+-- a pair has 18, and that of an odd byte 9. Otherwise the call answers none, and leaves the output
+-- as it was.
 unfoldable pub chart_answer : List ℕ → List ℕ → Option ℕ
-chart_answer input out = if nat_lt (length out) (9 * length input) then None else Some (length (chart_of input))
+chart_answer input out =
+    if nat_lt (length out) (9 * length input) then None else Some (length (chart_of input))
 
 -- the output afterwards: the chart, and past it what stood there
 unfoldable pub chart_output : List ℕ → List ℕ → List ℕ
-chart_output input out = if nat_lt (length out) (9 * length input) then out else chart_of input ++ drop (length (chart_of input)) out
+chart_output input out =
+    if nat_lt (length out) (9 * length input) then out
+    else chart_of input ++ drop (length (chart_of input)) out
 
 -- out' is out with the text stored from `at` on, and r the place after it
 pub record Stored (out : List ℕ) (at : ℕ) (text : List ℕ) (out' : List ℕ) (r : ℕ) : Type 0 where

@@ -1,6 +1,8 @@
 -- A RIFF/WAVE file as its chunks, or unreadable.
--- In order: the names; a chunk; the chunks from a place to the end; the file; the chunks of a name. Assumes nothing.
-use Rattle.std.specs.Prelude.{ℕ, zero, suc, ◌+◌, ◌%◌, Bool, true, false, if◌then◌else◌, ◌&&◌, List, [], ◌∷◌, nat_le, nat_lt, ◌==◌, length}
+-- In order: the names; a chunk; the chunks from a place to the end; the file; the chunks of a name.
+-- Assumes nothing.
+use Rattle.std.specs.Prelude.{ℕ, zero, suc, ◌+◌, ◌%◌, Bool, true, false, if◌then◌else◌, ◌&&◌, List}
+use Rattle.std.specs.Prelude.{[], ◌∷◌, nat_le, nat_lt, ◌==◌, length}
 use Rattle.layout.specs.Bytes.{little, little4_at}
 use Rattle.chunks.specs.declared.Chunk.{Chunk}
 
@@ -30,7 +32,8 @@ abbrev pub header_bytes : ℕ
 header_bytes = 8
 
 unfoldable pub chunk_at : List ℕ → ℕ → Chunk
-chunk_at file i = record { name = little4_at file i; place = i + header_bytes; size = little4_at file (i + 4) }
+chunk_at file i =
+    record { name = little4_at file i; place = i + header_bytes; size = little4_at file (i + 4) }
 
 -- where the next one's header is: an odd number of bytes is padded by one
 abbrev pub next : Chunk → ℕ
@@ -51,15 +54,16 @@ unfoldable pub before : Chunk → Listing → Listing
 before c unreadable = unreadable
 before c (chunks cs) = chunks (c ∷ cs)
 
--- One after another, n at most. A chunk takes eight bytes or more, so where n is the end itself none is left out: Row says what these are with
--- no such number.
+-- One after another, n at most. A chunk takes eight bytes or more, so where n is the end itself
+-- none is left out: Row says what these are with no such number.
 unfoldable pub chunks_from : ℕ → List ℕ → ℕ → ℕ → Listing
 chunks_from zero file end i = chunks []
 chunks_from (suc n) file end i =
     let rest = before (chunk_at file i) (chunks_from n file end (next (chunk_at file i))) in
     if nat_lt i end then (if is_whole file end i then rest else unreadable) else chunks []
 
--- ---- the file: "RIFF", a length, "WAVE", and from byte 12 on chunks. The length counts from byte 8 on, and the file
+-- ---- the file: "RIFF", a length, "WAVE", and from byte 12 on chunks. The length counts from byte
+-- 8 on, and the file
 -- may go on behind it.
 
 abbrev pub most_file_bytes : ℕ
@@ -84,7 +88,9 @@ is_headed file =
     && nat_le (riff_end file) (length file))))
 
 unfoldable pub listing : List ℕ → Listing
-listing file = if is_headed file then chunks_from (riff_end file) file (riff_end file) first_chunk else unreadable
+listing file =
+    if is_headed file then chunks_from (riff_end file) file (riff_end file) first_chunk
+    else unreadable
 
 unfoldable pub is_unreadable : Listing → Bool
 is_unreadable unreadable = true

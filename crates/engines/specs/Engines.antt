@@ -1,6 +1,7 @@
--- An engine as a host meets it: to each call, on what is lent, one outcome. In order: what can be lent; the engine; when it keeps the
--- promises; the engine of the definitions; six ways in which an engine is wrong. Whether it keeps them and whether it is wrong is asked
--- of what can be lent alone, since no code is ever lent anything else. Assumes nothing.
+-- An engine as a host meets it: to each call, on what is lent, one outcome. In order: what can be
+-- lent; the engine; when it keeps the promises; the engine of the definitions; six ways in which an
+-- engine is wrong. Whether it keeps them and whether it is wrong is asked of what can be lent
+-- alone, since no code is ever lent anything else. Assumes nothing.
 use Rattle.std.specs.Prelude.{◌≡◌, IsTrue, IsFalse, List, [], ◌∷◌, ℕ, ◌^◌, ◌<◌, ℤ, pos, replicate}
 use Rattle.numbers.specs.Numbers.{Bits}
 use Rattle.answer.specs.Answer.{Answer, is_done}
@@ -53,8 +54,9 @@ pub record Outcome : Type 0 where
   pub later : List ℕ
   pub sound : List ℤ
 
--- Of what is lent, in the same order. What an engine may remember of earlier calls does not enter: the promise fixes the outcome by what is
--- lent now, so one that remembers keeps it only if it is such a function whatever it remembers.
+-- Of what is lent, in the same order. What an engine may remember of earlier calls does not enter:
+-- the promise fixes the outcome by what is lent now, so one that remembers keeps it only if it is
+-- such a function whatever it remembers.
 abbrev pub Engine : Type 0
 Engine = List ℕ → List ℕ → List ℤ → Ask → Outcome
 
@@ -62,7 +64,9 @@ abbrev pub Meets : List ℕ → List ℕ → List ℤ → Ask → Outcome → Ty
 Meets m memory out ask o = Performs m memory out ask o.answer o.given o.later o.sound
 
 abbrev pub Keeps : Engine → Type 0
-Keeps e = (m memory : List ℕ) (out : List ℤ) (ask : Ask) → Lent m memory out ask → Meets m memory out ask (e m memory out ask)
+Keeps e =
+    (m memory : List ℕ) (out : List ℤ) (ask : Ask) → Lent m memory out ask
+    → Meets m memory out ask (e m memory out ask)
 
 -- the engine of the definitions
 abbrev pub defined : Engine
@@ -76,27 +80,37 @@ defined m memory out ask = record {
 -- ---- wrong engines
 
 abbrev pub RefusesAll : Engine → Type 0
-RefusesAll e = (m memory : List ℕ) (out : List ℤ) (ask : Ask) → Lent m memory out ask → IsFalse (is_done (e m memory out ask).answer)
+RefusesAll e =
+    (m memory : List ℕ) (out : List ℤ) (ask : Ask) → Lent m memory out ask
+    → IsFalse (is_done (e m memory out ask).answer)
 
 -- every frame that is done puts out zeros
 abbrev pub PutsOutZeros : Engine → Type 0
 PutsOutZeros e =
     (m memory : List ℕ) (out : List ℤ) → Lent m memory out Ask.Frame
-    → IsTrue (is_done (e m memory out Ask.Frame).answer) → (e m memory out Ask.Frame).sound ≡ replicate output_values (pos 0)
+    → IsTrue (is_done (e m memory out Ask.Frame).answer)
+    → (e m memory out Ask.Frame).sound ≡ replicate output_values (pos 0)
 
 -- every frame says that no word was missing
 abbrev pub MissesNothing : Engine → Type 0
-MissesNothing e = (m memory : List ℕ) (out : List ℤ) → Lent m memory out Ask.Frame → (e m memory out Ask.Frame).given ≡ 0
+MissesNothing e =
+    (m memory : List ℕ) (out : List ℤ) → Lent m memory out Ask.Frame
+    → (e m memory out Ask.Frame).given ≡ 0
 
 -- whoever asks is told that no voice waits
 abbrev pub TellsNone : Engine → Type 0
-TellsNone e = (m memory : List ℕ) (out : List ℤ) → Lent m memory out Ask.Waiting → (e m memory out Ask.Waiting).given ≡ 0
+TellsNone e =
+    (m memory : List ℕ) (out : List ℤ) → Lent m memory out Ask.Waiting
+    → (e m memory out Ask.Waiting).given ≡ 0
 
 abbrev pub NeverChanges : Engine → Type 0
-NeverChanges e = (m memory : List ℕ) (out : List ℤ) (ask : Ask) → Lent m memory out ask → (e m memory out ask).later ≡ m
+NeverChanges e =
+    (m memory : List ℕ) (out : List ℤ) (ask : Ask) → Lent m memory out ask
+    → (e m memory out ask).later ≡ m
 
 -- the frame after a frame, which is lent what that one left, puts out what that one did
 abbrev pub Repeats : Engine → Type 0
 Repeats e =
     (m memory : List ℕ) (out : List ℤ) → Lent m memory out Ask.Frame
-    → (e (e m memory out Ask.Frame).later memory (e m memory out Ask.Frame).sound Ask.Frame).sound ≡ (e m memory out Ask.Frame).sound
+    → (e (e m memory out Ask.Frame).later memory (e m memory out Ask.Frame).sound Ask.Frame).sound
+    ≡ (e m memory out Ask.Frame).sound

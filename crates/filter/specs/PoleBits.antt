@@ -1,4 +1,5 @@
--- The range of the poles' outputs, which `filter` asks of the last and promises of the new. Assumes nothing.
+-- The range of the poles' outputs, which `filter` asks of the last and promises of the new. Assumes
+-- nothing.
 use Rattle.numbers.specs.Numbers.{Bits}
 use Rattle.filter.specs.declared.Poles.{Poles}
 

@@ -4,11 +4,14 @@
 //! adds its own.
 #![tactic(auto)]
 
-ghost use Rattle.std.specs.Prelude.{◌≡◌, IsTrue, if◌then◌else◌, map, ℕ, ◌+◌, ◌*◌, ◌%◌, ◌^◌, ◌<◌, length, slice_index, replicate};
+ghost use Rattle.std.specs.Prelude.{◌≡◌, IsTrue, if◌then◌else◌, map, ℕ, ◌+◌, ◌*◌, ◌%◌, ◌^◌, ◌<◌};
+ghost use Rattle.std.specs.Prelude.{length, slice_index, replicate};
 ghost use Rattle.numbers.specs.Numbers.{Within};
 ghost use Rattle.control.specs.Control.{flag_of, with_bit, irq_bit};
 ghost use Rattle.channel.specs.Channel.{put_out};
-ghost use Rattle.machine.specs.Words.{record_words, voice_count, slow_word, sums_word, output_values, wait_mask_word, waiting_voices, with_mask, valid};
+ghost use Rattle.machine.specs.Words.{record_words, voice_count, slow_word, sums_word};
+ghost use Rattle.machine.specs.Words.{output_values, wait_mask_word, waiting_voices, with_mask};
+ghost use Rattle.machine.specs.Words.{valid};
 ghost use Rattle.voice.specs.Voice.{voice_of};
 ghost use Rattle.voice.specs.Takes.{as_addend};
 ghost use Rattle.voice.specs.Missed.{missed_by};
@@ -16,7 +19,8 @@ ghost use Rattle.machine.specs.Voices.{voice_at};
 ghost use Rattle.answer.specs.Answer.{answer_of, value_or};
 ghost use Rattle.machine.specs.Lent.{Leaves};
 ghost use Rattle.frame.specs.Missing.{missed_in};
-ghost use Rattle.frame.specs.Frame.{added_to, added, signalled, turn_at, played, heard, closed, frame_answer, Frames};
+ghost use Rattle.frame.specs.Frame.{added_to, added, signalled, turn_at, played, heard, closed};
+ghost use Rattle.frame.specs.Frame.{frame_answer, Frames};
 
 use answer::Refusal;
 use machine::Machine;
@@ -86,7 +90,8 @@ fn turn(m: &mut [u32], v: usize, slow: u32, samples: &Samples, missing: &mut u32
     requires slow_is_counter { slow ≡ slice_index m.old slow_word }
     requires missing_fits { missing.old + 2 < 2 ^ 32 }
     ensures m_after { m.new ≡ turn_at samples.now.memory.now v m.old }
-    ensures missing_after { missing.new ≡ missing.old + missed_by samples.now.memory.now (voice_of (voice_at m.old v)) }
+    ensures missing_after { missing.new ≡ missing.old + missed_by samples.now.memory.now
+        (voice_of (voice_at m.old v)) }
 {
     let first = machine::VOICE_WORDS * v;
     let end = first + machine::VOICE_WORDS;
@@ -101,10 +106,12 @@ fn turn(m: &mut [u32], v: usize, slow: u32, samples: &Samples, missing: &mut u32
 // is no `Machine`, and the sides of an addend have the range that `volume::pan` promises of each.
 fn add(m: &mut [u32], addend: Option<Addend>)
     requires has_record_length { length m.old ≡ record_words }
-    requires sums_in_range { (i : ℕ) → i < output_values → slice_index m.old (sums_word + i) < 8388608 }
+    requires sums_in_range { (i : ℕ) → i < output_values
+        → slice_index m.old (sums_word + i) < 8388608 }
     requires left_fits { Within 1048576 (as_addend addend).left }
     requires right_fits { Within 1048576 (as_addend addend).right }
-    ensures { m.new ≡ added m.old (as_addend addend).channel (as_addend addend).left (as_addend addend).right }
+    ensures { m.new ≡ added m.old (as_addend addend).channel (as_addend addend).left
+        (as_addend addend).right }
 {
     let Some(
         Addend {
@@ -147,7 +154,9 @@ fn left_sum(channel: u32) -> usize
 fn signal(m: &mut [u32], v: usize, cr: u32)
     requires has_record_length { length m.old ≡ record_words }
     requires is_voice { v < voice_count }
-    requires mask_but_for_voice { waiting_voices m.old ≡ (if flag_of irq_bit cr then with_bit v 1 (slice_index m.old wait_mask_word) else slice_index m.old wait_mask_word) }
+    requires mask_but_for_voice { waiting_voices m.old
+        ≡ (if flag_of irq_bit cr then with_bit v 1 (slice_index m.old wait_mask_word)
+        else slice_index m.old wait_mask_word) }
     ensures { m.new ≡ signalled (with_mask m.old) v cr }
 {
     if control::flag(control::IRQ, cr) {

@@ -1,6 +1,6 @@
 -- Numbers written as bytes, the lowest first or the highest.
--- In order: the number that some bytes are; that of two bytes and that of four at a place of a list; a list by twos; the bytes of a number. Assumes
--- nothing.
+-- In order: the number that some bytes are; that of two bytes and that of four at a place of a
+-- list; a list by twos; the bytes of a number. Assumes nothing.
 use Rattle.std.specs.Prelude.{ℕ, zero, suc, ◌+◌, ◌*◌, ◌/◌, ◌%◌, ◌^◌, List, [], ◌∷◌, length}
 use Rattle.layout.specs.Parts.{part}
 
@@ -24,7 +24,8 @@ little4_at xs i = little (part xs i 4)
 abbrev pub big2_at : List ℕ → ℕ → ℕ
 big2_at xs i = big (part xs i 2)
 
--- the numbers of a list's bytes by twos, in the order that is handed over: `twos little`, `twos big`. A last odd byte is left out.
+-- the numbers of a list's bytes by twos, in the order that is handed over: `twos little`, `twos
+-- big`. A last odd byte is left out.
 unfoldable pub twos : (List ℕ → ℕ) → List ℕ → List ℕ
 twos order [] = []
 twos order (a ∷ []) = []

@@ -5,7 +5,8 @@
 ghost use Rattle.std.specs.Prelude.{◌≡◌, ◌&&◌, ◌+◌, ◌<◌, ◌≤◌, if◌then◌else◌, length, slice_index};
 ghost use Rattle.answer.specs.Answer.{answer_of, value_or};
 ghost use Rattle.control.specs.Control.{with_bit};
-ghost use Rattle.machine.specs.Words.{bits_of, voice_bits, shared_bits, record_words, voice_count, o3n2_word};
+ghost use Rattle.machine.specs.Words.{bits_of, voice_bits, shared_bits, record_words, voice_count};
+ghost use Rattle.machine.specs.Words.{o3n2_word};
 ghost use Rattle.machine.specs.Words.{wait_mask_word, is_vector, waiting_voices, with_mask};
 ghost use Rattle.machine.specs.Kept.{in_voices, gathered_kept, sums_kept, shared_kept, Lanes};
 ghost use Rattle.machine.specs.Check.{checked};
@@ -289,7 +290,8 @@ fn gather_flags(m: &[u32; RECORD_WORDS]) -> u32
 pub fn mark(m: &mut [u32], v: usize, b: bool)
     requires has_record_length { length m.old ≡ record_words }
     requires is_voice { v < voice_count }
-    requires mask_but_for_voice { waiting_voices m.old ≡ with_bit v (if b then 1 else 0) (slice_index m.old wait_mask_word) }
+    requires mask_but_for_voice { waiting_voices m.old
+        ≡ with_bit v (if b then 1 else 0) (slice_index m.old wait_mask_word) }
     ensures { m.new ≡ with_mask m.old }
 {
     let mask = m[WAIT_MASK];

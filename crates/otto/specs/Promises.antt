@@ -1,5 +1,5 @@
--- What the C functions promise: the number of the call's answer, and all that the call leaves, by the definition of a call; and what an import does,
--- which is lent no record. Assumes nothing.
+-- What the C functions promise: the number of the call's answer, and all that the call leaves, by
+-- the definition of a call; and what an import does, which is lent no record. Assumes nothing.
 use Rattle.std.specs.Prelude.{◌≡◌, ℕ, List, ℤ, length}
 use Rattle.answer.specs.Answer.{answer_number}
 use Rattle.wave_in.specs.Import.{imported, import_memory}
@@ -21,13 +21,15 @@ pub record TellingWaiting (m : List ℕ) (number mask : ℕ) : Type 0 where
   pub gives : mask ≡ given_by m Waiting
 
 -- a frame, which is lent sample memory, an output and a place for the number of missing words
-pub record Framing (m memory : List ℕ) (out : List ℤ) (number missing : ℕ) (later : List ℕ) (sound : List ℤ) : Type 0 where
+pub record Framing (m memory : List ℕ) (out : List ℤ) (number missing : ℕ) (later : List ℕ)
+    (sound : List ℤ) : Type 0 where
   pub calls : Calling m (Frame memory out) number later
   pub misses : missing ≡ given_by m (Frame memory out)
   pub sounds : sound ≡ output_from m (Frame memory out)
 
 -- an import, which is lent a file, sample memory and four places
-pub record Importing (file memory : List ℕ) (word : ℕ) (number start end bits samples : ℕ) (later : List ℕ) : Type 0 where
+pub record Importing (file memory : List ℕ) (word : ℕ) (number start end bits samples : ℕ)
+    (later : List ℕ) : Type 0 where
   pub answers : number ≡ answer_number (imported file (length memory) word).answer
   pub starts : start ≡ (imported file (length memory) word).start
   pub ends : end ≡ (imported file (length memory) word).end

@@ -53,7 +53,8 @@ pub extern "C" fn otto_frame(
     output: &mut [i32],
     missing: &mut u32,
 ) -> u32
-    ensures { Framing «record».old memory.now output.old result missing.new «record».new output.new }
+    ensures { Framing «record».old memory.now output.old result missing.new «record».new
+        output.new }
 {
     let framed = frame::frame(record, memory, output);
     *missing = framed.unwrap_or(0);
@@ -85,7 +86,8 @@ pub extern "C" fn otto_import(
     bits: &mut u32,
     samples: &mut u32,
 ) -> u32
-    ensures { Importing file.now memory.old word result start.new end.new bits.new samples.new memory.new }
+    ensures { Importing file.now memory.old word result start.new end.new bits.new samples.new
+        memory.new }
 {
     let got = wave_in::import(file, memory, word);
     let taken = got.unwrap_or_default();

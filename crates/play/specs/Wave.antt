@@ -1,4 +1,5 @@
--- What is written of a score: the head of a WAVE file, and what is heard of the score. Assumes nothing.
+-- What is written of a score: the head of a WAVE file, and what is heard of the score. Assumes
+-- nothing.
 use Rattle.std.specs.Prelude.{ℕ, ◌*◌, ◌≡◌, List, ◌++◌, length, Option}
 use Rattle.std.specs.Io.KnownBytes.{Appends}
 use Rattle.wave_head.specs.Head.{sound_head}
@@ -12,4 +13,5 @@ WritesSound old new score =
     (words : List ℕ)
     × (length words ≡ 4096)
     × Filled 4096 score words
-    × Appends old new (sound_head 2 31250 (sample_size * score_frames score) ++ score_sound words score)
+    × Appends old new
+    (sound_head 2 31250 (sample_size * score_frames score) ++ score_sound words score)

@@ -44,7 +44,8 @@ fn main(rt: HostRuntime) -> io::Result<ExitCode> {
 
 // A good score, whose commands stand in full at the start of `full`.
 fn play<W: Write>(rt: &impl Eprint, file: &mut W, score: &[u8], full: &[u8]) -> io::Result<()>
-    requires { (verdict_of score.now ≡ Good) × (length full.now ≡ most_full_bytes) × (take (length (commands_of score.now)) full.now ≡ commands_of score.now) }
+    requires { (verdict_of score.now ≡ Good) × (length full.now ≡ most_full_bytes)
+        × (take (length (commands_of score.now)) full.now ≡ commands_of score.now) }
     ensures { OnOk result (WritesSound (W.contents file.old) (W.contents file.new) score.now) }
 {
     let n = repeats::full_bytes(&score[scores::MEMORY_BYTES..]);
@@ -67,7 +68,8 @@ fn sound<W: Write>(rt: &impl Eprint, file: &mut W, score: &[u8], commands: &[u8]
 // What stands before so many bytes of sound.
 fn put_head<W: Write>(file: &mut W, bytes: u32) -> io::Result<()>
     requires { bytes ≤ sample_size * most_frames }
-    ensures { OnOk result (Appends (W.contents file.old) (W.contents file.new) (sound_head 2 31250 bytes)) }
+    ensures { OnOk result
+        (Appends (W.contents file.old) (W.contents file.new) (sound_head 2 31250 bytes)) }
 {
     file.write_all(&wave_head::riff_head(wave_head::CHUNKS_BYTES + bytes))?;
     file.write_all(&wave_head::format_chunk(2, wave_head::RATE))?;
@@ -84,7 +86,9 @@ fn render<W: Write>(
     commands: &[u8],
     frames: u64,
 ) -> io::Result<()>
-    ensures { OnOk result (Appends (W.contents file.old) (W.contents file.new) (heard_from m.old (left_from memory.now commands.now 0 0))) }
+    ensures { OnOk result
+        (Appends (W.contents file.old) (W.contents file.new)
+        (heard_from m.old (left_from memory.now commands.now 0 0))) }
 {
     // One array for all parts, each of which fills some of it: no memory is asked for.
     let mut part = part_buffer();
@@ -117,7 +121,9 @@ fn part_buffer() -> [u8; 65536]
 // The first frames of a part; answers the loudest sample until then.
 fn put<W: Write>(file: &mut W, part: &[u8], frames: usize, loud: u32) -> io::Result<u32>
     requires { sample_size * frames ≤ length part.now }
-    ensures { OnOk result (Appends (W.contents file.old) (W.contents file.new) (take (sample_size * frames) part.now)) }
+    ensures { OnOk result
+        (Appends (W.contents file.old) (W.contents file.new)
+        (take (sample_size * frames) part.now)) }
 {
     let sound = &part[..scores::SAMPLE_BYTES * frames];
     file.write_all(sound)?;

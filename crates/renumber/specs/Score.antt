@@ -1,6 +1,7 @@
--- The calls of a plain host. Before each frame it writes whole registers of voices, each after its page; then it runs the frame.
--- In order: the calls of writes; a score and its calls; the score on other voices; what a score may hold. The calls of one write are
--- `calls/specs/WholeWrite`. Assumes nothing.
+-- The calls of a plain host. Before each frame it writes whole registers of voices, each after its
+-- page; then it runs the frame. In order: the calls of writes; a score and its calls; the score on
+-- other voices; what a score may hold. The calls of one write are `calls/specs/WholeWrite`. Assumes
+-- nothing.
 use Rattle.std.specs.Prelude.{List, [], ◌∷◌, ◌++◌, map, ℕ, ◌^◌, ◌<◌, ◌≤◌, pos, length, replicate}
 use Rattle.sample.specs.Sample.{most_memory_words}
 use Rattle.machine.specs.Words.{voice_count, voice_words, output_values}
@@ -26,7 +27,8 @@ pub record Step : Type 0 where
 
 unfoldable pub calls_of : List Step → List Call
 calls_of [] = []
-calls_of (f ∷ fs) = all_writes f.puts ++ Frame f.memory (replicate output_values (pos 0)) ∷ calls_of fs
+calls_of (f ∷ fs) =
+    all_writes f.puts ++ Frame f.memory (replicate output_values (pos 0)) ∷ calls_of fs
 
 -- ---- the score on other voices
 
@@ -36,7 +38,8 @@ put_on s p = record { voice = s p.voice; word = p.word; number = p.number }
 unfoldable pub step_on : (ℕ → ℕ) → Step → Step
 step_on s f = record { puts = map (put_on s) f.puts; memory = f.memory }
 
--- ---- what a score may hold: words of the 32 voices, 32 bits for each, and memory that no frame refuses
+-- ---- what a score may hold: words of the 32 voices, 32 bits for each, and memory that no frame
+-- refuses
 
 pub record Fits (p : Put) : Type 0 where
   pub voice : p.voice < voice_count

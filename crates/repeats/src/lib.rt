@@ -10,7 +10,8 @@
 
 ghost use Rattle.std.specs.Prelude.{◌≡◌, if◌then◌else◌, ◌+◌, ◌≤◌, length, take};
 ghost use Rattle.layout.specs.Parts.{part, with_part};
-ghost use Rattle.repeats.specs.Repeats.{command_bytes, back_at, asked_at, repeats_at, stands_for, in_full};
+ghost use Rattle.repeats.specs.Repeats.{command_bytes, back_at, asked_at, repeats_at, stands_for};
+ghost use Rattle.repeats.specs.Repeats.{in_full};
 
 /// Of a command.
 pub const COMMAND_BYTES: usize = 4;
@@ -66,7 +67,8 @@ pub fn full_bytes(commands: &[u8]) -> usize
 // Of what a command stands for, where so many bytes stand before it. (`put_stands_for` is the same
 // with the bytes: how many they are is asked before there is room for them.)
 fn stands_bytes(command: [u8; COMMAND_BYTES], before: usize) -> usize
-    ensures value { result ≡ (if repeats_at command 0 before then asked_at command 0 else command_bytes) }
+    ensures value { result ≡ (if repeats_at command 0 before then asked_at command 0
+        else command_bytes) }
     ensures few { result ≤ 1020 }
 {
     if repeats_others(command, before) {

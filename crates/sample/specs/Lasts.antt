@@ -1,9 +1,10 @@
--- Of each bank the last word that is lent, which a fetch asks first: below it, a word and the next one are both lent and in one bank.
--- Assumes nothing.
+-- Of each bank the last word that is lent, which a fetch asks first: below it, a word and the next
+-- one are both lent and in one bank. Assumes nothing.
 use Rattle.std.specs.Prelude.{◌≡◌, List, ℕ, ◌+◌, ◌-◌, ◌*◌, ◌<◌, min, length, slice_index}
 use Rattle.sample.specs.Sample.{bank_words}
 
--- of bank b, where n words are lent; where none of the bank is lent the memory's last word, or 0 where there is none either
+-- of bank b, where n words are lent; where none of the bank is lent the memory's last word, or 0
+-- where there is none either
 unfoldable pub last_of : ℕ → ℕ → ℕ
 last_of n b = min n (bank_words * (b + 1)) - 1
 

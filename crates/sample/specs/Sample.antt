@@ -1,6 +1,7 @@
--- The sample of a voice: the two words that it fetches from sample memory, each with whether it was there; how many were missing; what a word
--- stands for, and the value between two. Assumes nothing.
-use Rattle.std.specs.Prelude.{ℕ, ◌+◌, ◌*◌, ◌/◌, ◌%◌, Bool, true, false, if◌then◌else◌, Option, None, Some, List, nat_lt, ℤ, pos, ◌+ℤ◌, ◌-ℤ◌, ◌*ℤ◌, length, slice_index}
+-- The sample of a voice: the two words that it fetches from sample memory, each with whether it was
+-- there; how many were missing; what a word stands for, and the value between two. Assumes nothing.
+use Rattle.std.specs.Prelude.{ℕ, ◌+◌, ◌*◌, ◌/◌, ◌%◌, Bool, true, false, if◌then◌else◌, Option, None}
+use Rattle.std.specs.Prelude.{Some, List, nat_lt, ℤ, pos, ◌+ℤ◌, ◌-ℤ◌, ◌*ℤ◌, length, slice_index}
 use Rattle.numbers.specs.Numbers.{floor_div, signed}
 use Rattle.codes.specs.Codes.{value_of}
 use Rattle.control.specs.Control.{flag_of, bank_of, cmpd_bit}
@@ -20,7 +21,8 @@ too_many_words n = nat_lt most_memory_words n
 abbrev pub whole_sample : ℕ
 whole_sample = 2048
 
--- a word that was asked for, 0 where it was not there, and whether it was; and the two words of a fetch
+-- a word that was asked for, 0 where it was not there, and whether it was; and the two words of a
+-- fetch
 pub record MemoryWord : Type 0 where
   pub bits : ℕ
   pub there : Bool
@@ -38,8 +40,8 @@ as_word (Some bits) = record { bits = bits; there = true }
 abbrev pub word_at : List ℕ → ℕ → MemoryWord
 word_at memory i = record { bits = slice_index memory i; there = nat_lt i (length memory) }
 
--- the words of the first and of the second sample: one at ACCUM's whole part, in the voice's bank, and the next, which wraps within
--- the bank
+-- the words of the first and of the second sample: one at ACCUM's whole part, in the voice's bank,
+-- and the next, which wraps within the bank
 unfoldable pub first_at : ℕ → ℕ → ℕ
 first_at CR ACCUM = bank_of CR * bank_words + ACCUM / whole_sample
 
@@ -47,13 +49,17 @@ unfoldable pub second_at : ℕ → ℕ → ℕ
 second_at CR ACCUM = bank_of CR * bank_words + (ACCUM / whole_sample + 1) % bank_words
 
 unfoldable pub fetched : List ℕ → ℕ → ℕ → Words
-fetched memory CR ACCUM = record { first = word_at memory (first_at CR ACCUM); second = word_at memory (second_at CR ACCUM) }
+fetched memory CR ACCUM =
+    record { first = word_at memory (first_at CR ACCUM);
+    second = word_at memory (second_at CR ACCUM) }
 
--- how many of the two were missing: each counts by itself, also where F is 0 and the second is not heard
+-- how many of the two were missing: each counts by itself, also where F is 0 and the second is not
+-- heard
 unfoldable pub missing_of : Words → ℕ
 missing_of w = (if w.first.there then 0 else 1) + (if w.second.there then 0 else 1)
 
--- what a word stands for: a sample of 16 bits, or where CMPD is 1 the value of the code in its high byte
+-- what a word stands for: a sample of 16 bits, or where CMPD is 1 the value of the code in its high
+-- byte
 unfoldable pub sample_of : ℕ → ℕ → ℤ
 sample_of CR w = if flag_of cmpd_bit CR then value_of (w / 256) else signed 16 w
 

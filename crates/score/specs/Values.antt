@@ -1,4 +1,5 @@
--- The text of a frame's values: each after a space, with a sign where it is below 0. Assumes nothing.
+-- The text of a frame's values: each after a space, with a sign where it is below 0. Assumes
+-- nothing.
 use Rattle.std.specs.Prelude.{ℕ, List, ◌∷◌, ℤ}
 use Rattle.std.specs.List.{flat_map}
 use Rattle.std.specs.Fmt.{signed_decimal}

@@ -93,7 +93,8 @@ fn put_answer<W: Write>(out: &mut W, ask: Ask, answer: Result<u32, Refusal>) -> 
 
 // A frame's values, each after a space.
 fn put_values<W: Write>(out: &mut W, values: &[i32]) -> io::Result<()>
-    ensures { OnOk result (Appends (W.contents out.old) (W.contents out.new) (values_text values.now)) }
+    ensures { OnOk result
+        (Appends (W.contents out.old) (W.contents out.new) (values_text values.now)) }
 {
     for value in values {
         put_field(out, i64::from(*value))?;

@@ -1,10 +1,15 @@
--- A score: the words of sample memory at its start, and its commands, in full; which calls a command makes; the calls of all
--- commands; how many frames these are; whether a score is good. In that order. How commands stand in bytes, and what one that repeats others stands
--- for, is `repeats`. Assumes nothing.
-use Rattle.std.specs.Prelude.{ℕ, zero, suc, ◌*◌, ◌%◌, ◌-◌, ◌<◌, ◌≡◌, Bool, true, false, if◌then◌else◌, not, ◌&&◌, List, [], ◌∷◌, ◌++◌, ◌==◌, nat_lt, ℤ, pos, length, slice_index, drop, replicate, Option, None, Some, Result, Ok, Err}
+-- A score: the words of sample memory at its start, and its commands, in full; which calls a
+-- command makes; the calls of all commands; how many frames these are; whether a score is good. In
+-- that order. How commands stand in bytes, and what one that repeats others stands for, is
+-- `repeats`. Assumes nothing.
+use Rattle.std.specs.Prelude.{ℕ, zero, suc, ◌*◌, ◌%◌, ◌-◌, ◌<◌, ◌≡◌, Bool, true, false}
+use Rattle.std.specs.Prelude.{if◌then◌else◌, not, ◌&&◌, List, [], ◌∷◌, ◌++◌, ◌==◌, nat_lt, ℤ, pos}
+use Rattle.std.specs.Prelude.{length, slice_index, drop, replicate, Option, None, Some, Result, Ok}
+use Rattle.std.specs.Prelude.{Err}
 use Rattle.numbers.specs.Sum.{sum}
 use Rattle.layout.specs.Bytes.{big2_at}
-use Rattle.repeats.specs.Repeats.{command_bytes, command_count, kind_at, number_at, byte_at, repeat_kind, in_full}
+use Rattle.repeats.specs.Repeats.{command_bytes, command_count, kind_at, number_at, byte_at}
+use Rattle.repeats.specs.Repeats.{repeat_kind, in_full}
 use Rattle.machine.specs.Words.{output_values}
 use Rattle.calls.specs.Calls.{Call}
 use Rattle.calls.specs.Asks.{call_of}
@@ -13,7 +18,8 @@ use Rattle.calls.specs.declared.Ask.TheVariants.{Reset, Write, Read, SetPot, Wai
 use Rattle.scores.specs.declared.Command.{Command}
 use Rattle.scores.specs.declared.Command.TheVariants.{Once, Frames, Nothing}
 use Rattle.scores.specs.declared.ScoreError.{ScoreError}
-use Rattle.scores.specs.declared.ScoreError.TheVariants.{TooLong, NoMemory, Cut, TooManyCommands, Unknown, NotThere, TooManyFrames}
+use Rattle.scores.specs.declared.ScoreError.TheVariants.{TooLong, NoMemory, Cut, TooManyCommands}
+use Rattle.scores.specs.declared.ScoreError.TheVariants.{Unknown, NotThere, TooManyFrames}
 
 abbrev pub memory_bytes : ℕ
 memory_bytes = 8192
@@ -73,7 +79,8 @@ calls_of memory Nothing = []
 -- those of n commands, from command k on
 unfoldable pub calls_from : List ℕ → List ℕ → ℕ → ℕ → List Call
 calls_from memory commands zero k = []
-calls_from memory commands (suc n) k = calls_of memory (command_no commands k) ++ calls_from memory commands n (suc k)
+calls_from memory commands (suc n) k =
+    calls_of memory (command_no commands k) ++ calls_from memory commands n (suc k)
 
 -- those of all commands, and of a score
 abbrev pub all_calls : List ℕ → List ℕ → List Call
@@ -130,12 +137,14 @@ most_frames = 1073741814
 -- the first n commands are of kinds below this one, and all are
 unfoldable pub first_below : ℕ → List ℕ → ℕ → Bool
 first_below kind commands zero = true
-first_below kind commands (suc n) = first_below kind commands n && nat_lt (kind_at commands (command_bytes * n)) kind
+first_below kind commands (suc n) =
+    first_below kind commands n && nat_lt (kind_at commands (command_bytes * n)) kind
 
 abbrev pub all_below : ℕ → List ℕ → Bool
 all_below kind commands = first_below kind commands (command_count commands)
 
--- of commands in full: the first of these that holds; a repeat is still there where its commands are not
+-- of commands in full: the first of these that holds; a repeat is still there where its commands
+-- are not
 unfoldable pub commands_verdict : List ℕ → Verdict
 commands_verdict commands =
     if not (all_below kind_count commands) then Err Unknown

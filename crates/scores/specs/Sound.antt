@@ -1,6 +1,8 @@
 -- What is heard of a frame's twelve values, and of a run of frames: stereo, 16 bits.
--- In order: one side of a frame; what is heard of it; the bytes of a frame; the bytes of some frames; the loudest sample of these. Assumes nothing.
-use Rattle.std.specs.Prelude.{ℕ, zero, suc, ◌+◌, ◌*◌, max, List, [], ◌++◌, ℤ, pos, nat_abs, ◌+ℤ◌, slice_index_or, take, drop}
+-- In order: one side of a frame; what is heard of it; the bytes of a frame; the bytes of some
+-- frames; the loudest sample of these. Assumes nothing.
+use Rattle.std.specs.Prelude.{ℕ, zero, suc, ◌+◌, ◌*◌, max, List, [], ◌++◌, ℤ, pos, nat_abs, ◌+ℤ◌}
+use Rattle.std.specs.Prelude.{slice_index_or, take, drop}
 use Rattle.numbers.specs.Numbers.{floor_div, minus, held, word, signed}
 use Rattle.layout.specs.Bytes.{little_bytes, little2_at}
 use Rattle.machine.specs.Words.{output_values}
@@ -20,14 +22,18 @@ abbrev pub sample_size : ℕ
 sample_size = 4
 
 unfoldable pub sample_bytes : List ℤ → List ℕ
-sample_bytes values = little_bytes 2 (word 16 (heard_of (side_of 0 values))) ++ little_bytes 2 (word 16 (heard_of (side_of 1 values)))
+sample_bytes values =
+    little_bytes 2 (word 16 (heard_of (side_of 0 values)))
+    ++ little_bytes 2 (word 16 (heard_of (side_of 1 values)))
 
 -- of n frames, whose values follow each other
 unfoldable pub sound_of : ℕ → List ℤ → List ℕ
 sound_of zero values = []
-sound_of (suc n) values = sample_bytes (take output_values values) ++ sound_of n (drop output_values values)
+sound_of (suc n) values =
+    sample_bytes (take output_values values) ++ sound_of n (drop output_values values)
 
 -- the loudest of the first n samples, or what was the loudest before
 unfoldable pub loudest_of : List ℕ → ℕ → ℕ → ℕ
 loudest_of sound zero before = before
-loudest_of sound (suc n) before = max (loudest_of sound n before) (nat_abs (signed 16 (little2_at sound (2 * n))))
+loudest_of sound (suc n) before =
+    max (loudest_of sound n before) (nat_abs (signed 16 (little2_at sound (2 * n))))

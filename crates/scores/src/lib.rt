@@ -16,7 +16,9 @@ ghost use Rattle.numbers.specs.Numbers.{word};
 ghost use Rattle.answer.specs.Answer.{answer_of};
 ghost use Rattle.calls.specs.Asks.{call_of};
 ghost use Rattle.layout.specs.Parts.{with_part};
-ghost use Rattle.scores.specs.Score.{most_full_bytes, Filled, commands_of, command_at, command_no, times_of, call_after, silence, is_frame_ask, frames_of, all_frames};
+ghost use Rattle.scores.specs.Score.{most_full_bytes, Filled, commands_of, command_at, command_no};
+ghost use Rattle.scores.specs.Score.{times_of, call_after, silence, is_frame_ask, frames_of};
+ghost use Rattle.scores.specs.Score.{all_frames};
 ghost use Rattle.scores.specs.Score.{Good, all_below, commands_verdict, verdict_of};
 ghost use Rattle.scores.specs.Sound.{sample_size, heard_of, sample_bytes, loudest_of};
 ghost use Rattle.scores.specs.Playing.{Makes, Plays};
@@ -171,7 +173,8 @@ pub enum ScoreError {
 pub fn judge(score: &[u8], full: &mut [u8]) -> Result<(), ScoreError>
     requires { length full.old ≡ most_full_bytes }
     ensures value { result ≡ verdict_of score.now }
-    ensures full_after { verdict_of score.now ≡ Good → full.new ≡ with_part full.old 0 (commands_of score.now) }
+    ensures full_after { verdict_of score.now ≡ Good
+        → full.new ≡ with_part full.old 0 (commands_of score.now) }
 {
     if MOST_BYTES < score.len() {
         return Err(ScoreError::TooLong);
@@ -263,7 +266,8 @@ fn make(
     at: usize,
 ) -> Result<u32, Refusal>
     requires { at + sample_size ≤ length sound.old }
-    ensures { Makes m.old (call_of ask memory.now silence) sound.old at (answer_of result) m.new sound.new }
+    ensures { Makes m.old (call_of ask memory.now silence) sound.old at
+        (answer_of result) m.new sound.new }
 {
     let mut out = [0; machine::OUTPUT_VALUES];
     let answer = calls::perform(m, ask, memory, &mut out);
@@ -298,7 +302,8 @@ pub fn play(
     sound: &mut [u8],
 ) -> Played
     requires { position.made ≤ times_of (command_no commands.now position.command) }
-    ensures { Plays m.old memory.now commands.now position.command position.made sound.old result m.new sound.new }
+    ensures { Plays m.old memory.now commands.now position.command position.made sound.old result
+        m.new sound.new }
 {
     let (whole, _) = commands.as_chunks::<COMMAND_BYTES>();
     let room = sound.len() / SAMPLE_BYTES;

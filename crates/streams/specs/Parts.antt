@@ -1,5 +1,5 @@
--- What reads and writes, also those that fail on their way, have done until then, where the bytes of
--- the reader or the writer are known. Assumes nothing.
+-- What reads and writes, also those that fail on their way, have done until then, where the bytes
+-- of the reader or the writer are known. Assumes nothing.
 use Rattle.std.specs.Prelude.{ℕ, ◌≤◌, List, length, take}
 use Rattle.std.specs.declared.option.Option.{Option}
 use Rattle.std.specs.Io.KnownBytes.{Consumes, Appends}

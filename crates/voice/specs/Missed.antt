@@ -1,4 +1,5 @@
--- How many words of sample memory a voice asks for and misses, by its registers. Then what it is for both to be there. Assumes nothing.
+-- How many words of sample memory a voice asks for and misses, by its registers. Then what it is
+-- for both to be there. Assumes nothing.
 use Rattle.std.specs.Prelude.{if◌then◌else◌, List, ℕ, ◌<◌, length}
 use Rattle.control.specs.Control.{runs}
 use Rattle.sample.specs.Sample.{first_at, second_at, fetched, missing_of}

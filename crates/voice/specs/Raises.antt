@@ -1,5 +1,5 @@
--- Whether a turn raises the voice's interrupt flag, as a test, for theorems about interrupts. That the flag after a turn goes by it is
--- proofs/Flag. Assumes nothing.
+-- Whether a turn raises the voice's interrupt flag, as a test, for theorems about interrupts. That
+-- the flag after a turn goes by it is proofs/Flag. Assumes nothing.
 use Rattle.std.specs.Prelude.{Bool, ◌&&◌}
 use Rattle.control.specs.Control.{flag_of, runs, irqe_bit}
 use Rattle.address.specs.LoopEvent.{loop_event}

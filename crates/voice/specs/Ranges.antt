@@ -1,7 +1,10 @@
--- The ranges of a voice's registers, which a turn asks; that a turn keeps them is proofs/Keeps. FC, the ramps,
--- START and END, which no turn changes, and ACCUM, which may be any 32 bits, are not named. Assumes nothing.
+-- The ranges of a voice's registers, which a turn asks; that a turn keeps them is proofs/Keeps. FC,
+-- the ramps, START and END, which no turn changes, and ACCUM, which may be any 32 bits, are not
+-- named. Assumes nothing.
 use Rattle.std.specs.Prelude.{◌<◌}
-use Rattle.machine.specs.Words.{voice_range, cr_word, lvol_word, rvol_word, ecount_word, k2_word, k1_word, o4n1_word, o3n1_word, o3n2_word, o2n1_word, o2n2_word, o1n1_word}
+use Rattle.machine.specs.Words.{voice_range, cr_word, lvol_word, rvol_word, ecount_word, k2_word}
+use Rattle.machine.specs.Words.{k1_word, o4n1_word, o3n1_word, o3n2_word, o2n1_word, o2n2_word}
+use Rattle.machine.specs.Words.{o1n1_word}
 use Rattle.voice.specs.Voice.{Voice, Levels}
 
 pub record Ranges (v : Voice) : Type 0 where

@@ -1,7 +1,9 @@
--- One turn of a voice: its twenty registers, the slow-ramp counter and the sample memory in; the registers afterwards and what it adds to
--- the left and right sums of its channel out. The turn does not know the voice's number.
--- In order: the poles' last outputs as numbers, and their new ones; the levels that ramps move; a voice with new outputs, and one moved; the
--- turn of a stopped voice; that of a running one; the turn.
+-- One turn of a voice: its twenty registers, the slow-ramp counter and the sample memory in; the
+-- registers afterwards and what it adds to the left and right sums of its channel out. The turn
+-- does not know the voice's number.
+-- In order: the poles' last outputs as numbers, and their new ones; the levels that ramps move; a
+-- voice with new outputs, and one moved; the turn of a stopped voice; that of a running one; the
+-- turn.
 -- Every rule reads the registers as they stood when the turn began. Assumes nothing.
 use Rattle.std.specs.Prelude.{ℕ, ◌-◌, if◌then◌else◌, List, ◌==◌, ℤ, pos}
 use Rattle.numbers.specs.Numbers.{signed, word}
@@ -17,7 +19,9 @@ use Rattle.voice.specs.Voice.{Voice, Levels, Turn}
 
 -- the last outputs of the poles: the (n-1) words, signed 18 bits
 unfoldable pub last_outputs : Voice → Poles
-last_outputs v = record { o1 = signed 18 v.o1n1; o2 = signed 18 v.o2n1; o3 = signed 18 v.o3n1; o4 = signed 18 v.o4n1 }
+last_outputs v =
+    record { o1 = signed 18 v.o1n1; o2 = signed 18 v.o2n1; o3 = signed 18 v.o3n1;
+    o4 = signed 18 v.o4n1 }
 
 -- the outputs of the poles when x passes
 abbrev pub passing : ℤ → Voice → Poles
@@ -38,7 +42,8 @@ ramped_levels slow v =
       k2 = slow_ramped slow v.k2 v.k2ramp;
     }
 
--- the voice with new outputs of its poles: the (n-1) words take them, and the (n-2) words the old (n-1) words
+-- the voice with new outputs of its poles: the (n-1) words take them, and the (n-2) words the old
+-- (n-1) words
 unfoldable pub with_outputs : Voice → Poles → Voice
 with_outputs v p =
     record {
@@ -90,7 +95,8 @@ moved v a l =
       o1n1 = v.o1n1;
     }
 
--- A stopped voice reads no memory, so its poles take 0 in; nothing else of it works. It adds nothing to its channel.
+-- A stopped voice reads no memory, so its poles take 0 in; nothing else of it works. It adds
+-- nothing to its channel.
 unfoldable pub stopped_turn : Voice → Turn
 stopped_turn v = record { voice = with_outputs v (passing (pos 0) v); left = pos 0; right = pos 0 }
 
@@ -105,7 +111,8 @@ unfoldable pub running_turn : List ℕ → ℕ → Voice → Turn
 running_turn memory slow v =
     let p = passing (sampled memory v) v in
     record {
-      voice = moved (with_outputs v p) (stepped v.cr v.fc v.start v.end v.accum) (ramped_levels slow v);
+      voice = moved (with_outputs v p) (stepped v.cr v.fc v.start v.end v.accum)
+      (ramped_levels slow v);
       left = panned v.lvol p.o4;
       right = panned v.rvol p.o4;
     }

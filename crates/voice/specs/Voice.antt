@@ -1,8 +1,12 @@
 -- A voice by its registers.
--- In order: the twenty registers, in the order of the record's words; the voice that twenty words are, and the words that a voice is; the
--- levels that ramps move; what a turn gives. Assumes nothing.
+-- In order: the twenty registers, in the order of the record's words; the voice that twenty words
+-- are, and the words that a voice is; the levels that ramps move; what a turn gives. Assumes
+-- nothing.
 use Rattle.std.specs.Prelude.{ℕ, List, [], ◌∷◌, ℤ, slice_index}
-use Rattle.machine.specs.Words.{cr_word, fc_word, lvol_word, lvramp_word, rvol_word, rvramp_word, ecount_word, k2_word, k2ramp_word, k1_word, k1ramp_word, start_word, end_word, accum_word, o4n1_word, o3n1_word, o3n2_word, o2n1_word, o2n2_word, o1n1_word}
+use Rattle.machine.specs.Words.{cr_word, fc_word, lvol_word, lvramp_word, rvol_word, rvramp_word}
+use Rattle.machine.specs.Words.{ecount_word, k2_word, k2ramp_word, k1_word, k1ramp_word, start_word}
+use Rattle.machine.specs.Words.{end_word, accum_word, o4n1_word, o3n1_word, o3n2_word, o2n1_word}
+use Rattle.machine.specs.Words.{o2n2_word, o1n1_word}
 
 pub record Voice : Type 0 where
   pub cr : ℕ
@@ -53,7 +57,8 @@ voice_of w =
 
 unfoldable pub words_of : Voice → List ℕ
 words_of v =
-    v.cr ∷ v.fc ∷ v.lvol ∷ v.lvramp ∷ v.rvol ∷ v.rvramp ∷ v.ecount ∷ v.k2 ∷ v.k2ramp ∷ v.k1 ∷ v.k1ramp
+    v.cr ∷ v.fc ∷ v.lvol ∷ v.lvramp ∷ v.rvol ∷ v.rvramp ∷ v.ecount ∷ v.k2 ∷ v.k2ramp ∷ v.k1
+    ∷ v.k1ramp
     ∷ v.start ∷ v.end ∷ v.accum ∷ v.o4n1 ∷ v.o3n1 ∷ v.o3n2 ∷ v.o2n1 ∷ v.o2n2 ∷ v.o1n1 ∷ []
 
 -- what ramps move

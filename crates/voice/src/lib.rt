@@ -4,7 +4,8 @@
 //! The words are read and stored where they stand: no copy of the voice is made.
 #![tactic(auto)]
 
-ghost use Rattle.std.specs.Prelude.{◌≡◌, if◌then◌else◌, ◌+◌, ◌^◌, ◌<◌, pos, IsTrue, length, slice_index, IsSome, ◌↔◌};
+ghost use Rattle.std.specs.Prelude.{◌≡◌, if◌then◌else◌, ◌+◌, ◌^◌, ◌<◌, pos, IsTrue, length};
+ghost use Rattle.std.specs.Prelude.{slice_index, IsSome, ◌↔◌};
 ghost use Rattle.numbers.specs.Numbers.{Bits};
 ghost use Rattle.control.specs.Control.{runs};
 ghost use Rattle.filter.specs.PoleBits.{PoleBits};
@@ -44,7 +45,8 @@ pub fn turn(w: &mut [u32], slow: u32, samples: &Samples, missing: &mut u32) -> O
     requires missing_fits { missing.old + 2 < 2 ^ 32 }
     ensures takes_turn { TakesTurn samples.now.memory.now slow w.old w.new (as_addend result) }
     ensures running { IsSome result ↔ IsTrue (runs (slice_index w.old cr_word)) }
-    ensures missing_after { missing.new ≡ missing.old + missed_by samples.now.memory.now (voice_of w.old) }
+    ensures missing_after { missing.new ≡ missing.old + missed_by samples.now.memory.now
+        (voice_of w.old) }
 {
     let Some(w) = w.as_mut_array() else {
         unreachable!()
@@ -72,8 +74,11 @@ pub fn turn(w: &mut [u32], slow: u32, samples: &Samples, missing: &mut u32) -> O
 fn input(w: &Words, samples: &Samples, missing: &mut u32) -> i32
     requires cr_in_range { slice_index w.now cr_word < 65536 }
     requires missing_fits { missing.old + 2 < 2 ^ 32 }
-    ensures value { (result ≡ (if runs (slice_index w.now cr_word) then sampled samples.now.memory.now (voice_of w.now) else pos 0)) × Bits 18 result }
-    ensures missing_after { missing.new ≡ missing.old + missed_by samples.now.memory.now (voice_of w.now) }
+    ensures value { (result
+        ≡ (if runs (slice_index w.now cr_word) then sampled samples.now.memory.now (voice_of w.now)
+        else pos 0)) × Bits 18 result }
+    ensures missing_after { missing.new ≡ missing.old + missed_by samples.now.memory.now
+        (voice_of w.now) }
 {
     let cr = w[machine::CR];
     if !control::running(cr) {

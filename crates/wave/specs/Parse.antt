@@ -1,7 +1,10 @@
--- What the functions that read a file promise: what one pass over its chunks keeps of them, what the file comes to, and what is asked of a chunk before
--- its bytes are read. In that order. Assumes nothing.
-use Rattle.std.specs.Prelude.{ℕ, ◌+◌, ◌≤◌, Bool, false, if◌then◌else◌, List, [], ◌∷◌, ◌==◌, length, Option, Some, None, IfSome}
-use Rattle.chunks.specs.Chunks.{Listing, unreadable, chunks, chunks_of, named, format_name, data_name, sampler_name}
+-- What the functions that read a file promise: what one pass over its chunks keeps of them, what
+-- the file comes to, and what is asked of a chunk before its bytes are read. In that order. Assumes
+-- nothing.
+use Rattle.std.specs.Prelude.{ℕ, ◌+◌, ◌≤◌, Bool, false, if◌then◌else◌, List, [], ◌∷◌, ◌==◌, length}
+use Rattle.std.specs.Prelude.{Option, Some, None, IfSome}
+use Rattle.chunks.specs.Chunks.{Listing, unreadable, chunks, chunks_of, named, format_name}
+use Rattle.chunks.specs.Chunks.{data_name, sampler_name}
 use Rattle.chunks.specs.declared.Chunk.{Chunk}
 use Rattle.wave.specs.Wave.{any_short, is_sampler_short, loop_in, is_broken}
 use Rattle.wave.specs.declared.Loop.{Loop}
@@ -32,10 +35,14 @@ keep name c k = if c.name == name then kept_more c k else k
 
 -- of all chunks: of those of each name
 abbrev pub found_of : List Chunk → Found
-found_of cs = record { format = kept_of (named format_name cs); pcm = kept_of (named data_name cs); sampler = kept_of (named sampler_name cs) }
+found_of cs =
+    record { format = kept_of (named format_name cs); pcm = kept_of (named data_name cs);
+    sampler = kept_of (named sampler_name cs) }
 
 abbrev pub with_chunk : Chunk → Found → Found
-with_chunk c f = record { format = keep format_name c f.format; pcm = keep data_name c f.pcm; sampler = keep sampler_name c f.sampler }
+with_chunk c f =
+    record { format = keep format_name c f.format; pcm = keep data_name c f.pcm;
+    sampler = keep sampler_name c f.sampler }
 
 -- format and data, where each is there just once
 abbrev pub both : Kept → Kept → Option (Chunk × Chunk)

@@ -9,7 +9,9 @@
 ghost use Rattle.std.specs.Prelude.{◌≡◌, IsFalse, if◌then◌else◌, Some, None, ◌≤◌, length};
 ghost use Rattle.chunks.specs.Chunks.{chunks_from, first_chunk};
 ghost use Rattle.wave.specs.Wave.{is_short, is_mono16, is_sampler_short, format_bytes};
-ghost use Rattle.wave.specs.Parse.{first_kept, kept_more, with_chunk, once_both, collected_of, parsed_of, first_sampler_short_of, loop_of_kept, InFile, FirstInFile};
+ghost use Rattle.wave.specs.Parse.{first_kept, kept_more, with_chunk, once_both, collected_of};
+ghost use Rattle.wave.specs.Parse.{parsed_of, first_sampler_short_of, loop_of_kept, InFile};
+ghost use Rattle.wave.specs.Parse.{FirstInFile};
 
 use chunks::{Chunk, Kind};
 

@@ -1,5 +1,6 @@
 -- What a WAVE file begins with, as bytes. Numbers have their lowest byte first.
--- In order: the file's own head; the format chunk; the data chunk's head; all three, for a file that has no other chunk; a rate. Assumes nothing.
+-- In order: the file's own head; the format chunk; the data chunk's head; all three, for a file
+-- that has no other chunk; a rate. Assumes nothing.
 use Rattle.std.specs.Prelude.{ℕ, ◌+◌, ◌*◌, List, ◌++◌, length}
 use Rattle.layout.specs.Bytes.{little_bytes}
 use Rattle.chunks.specs.Chunks.{riff_name, wave_name, format_name, data_name}
@@ -9,11 +10,13 @@ use Rattle.wave.specs.Wave.{format_bytes}
 unfoldable pub riff_head : ℕ → List ℕ
 riff_head n = little_bytes 4 riff_name ++ little_bytes 4 (4 + n) ++ little_bytes 4 wave_name
 
--- PCM of 16 bits: its tag is 1; so many channels and samples a second, and the bytes a second and those of one sample of all channels
+-- PCM of 16 bits: its tag is 1; so many channels and samples a second, and the bytes a second and
+-- those of one sample of all channels
 unfoldable pub format_chunk : ℕ → ℕ → List ℕ
 format_chunk channels rate =
     let bytes = 2 * channels in
-    little_bytes 4 format_name ++ little_bytes 4 format_bytes ++ little_bytes 2 1 ++ little_bytes 2 channels ++ little_bytes 4 rate ++ little_bytes 4 (bytes * rate)
+    little_bytes 4 format_name ++ little_bytes 4 format_bytes ++ little_bytes 2 1
+    ++ little_bytes 2 channels ++ little_bytes 4 rate ++ little_bytes 4 (bytes * rate)
     ++ little_bytes 2 bytes ++ little_bytes 2 16
 
 -- a data chunk of n bytes, which follow it

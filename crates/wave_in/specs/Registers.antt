@@ -1,5 +1,5 @@
--- A loop as the registers of a voice, where the first sample of its file is put into a word of sample memory.
--- In order: a sample's place; START; END; the loop bits. Assumes nothing.
+-- A loop as the registers of a voice, where the first sample of its file is put into a word of
+-- sample memory. In order: a sample's place; START; END; the loop bits. Assumes nothing.
 use Rattle.std.specs.Prelude.{ℕ, ◌+◌, ◌*◌, ◌%◌, if◌then◌else◌, ◌==◌, Option, Some, None}
 use Rattle.control.specs.Control.{with_bit, lpe_bit, ble_bit, dir_bit}
 use Rattle.sample.specs.Sample.{bank_words, whole_sample}
@@ -23,7 +23,9 @@ end_of word (Some l) = register_at word (l.last + 1)
 --   1  bidirectional                   LPE, BLE
 --   2  one-directional, in reverse     LPE, DIR
 abbrev pub type_bits : ℕ → ℕ
-type_bits type = let one = with_bit lpe_bit 1 0 in if type == 1 then with_bit ble_bit 1 one else if type == 2 then with_bit dir_bit 1 one else one
+type_bits type =
+    let one = with_bit lpe_bit 1 0 in
+    if type == 1 then with_bit ble_bit 1 one else if type == 2 then with_bit dir_bit 1 one else one
 
 unfoldable pub loop_bits : Option Loop → ℕ
 loop_bits None = 0

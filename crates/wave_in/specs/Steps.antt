@@ -1,4 +1,5 @@
--- What the steps of an import promise one another: whether it is refused, and where the samples go. Assumes nothing.
+-- What the steps of an import promise one another: whether it is refused, and where the samples go.
+-- Assumes nothing.
 use Rattle.std.specs.Prelude.{◌≡◌, ℕ, ◌+◌, ◌*◌, ◌≤◌, List, Option, Result, Ok, Err}
 use Rattle.answer.specs.Answer.{Answer}
 use Rattle.answer.specs.declared.Refusal.{Refusal}
@@ -15,7 +16,8 @@ given (Ok _) x = Ok x
 given (Err e) x = Err e
 
 unfoldable pub settled_of : List ℕ → ℕ → ℕ → Result (Chunk × Option Loop) Refusal
-settled_of file room word = given (import_answer file room word) (data_of (chunks_of file), loop_of file (chunks_of file))
+settled_of file room word =
+    given (import_answer file room word) (data_of (chunks_of file), loop_of file (chunks_of file))
 
 -- the samples' bytes are in the file, by twos, and as many words are lent from the named one on
 pub record Placeable (file : List ℕ) (c : Chunk) (room word : ℕ) : Type 0 where
