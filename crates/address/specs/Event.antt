@@ -13,9 +13,12 @@ use Rattle.address.specs.declared.Place.{Place}
 unfoldable pub event : ℕ → ℕ → ℤ → ℤ → ℕ → Place
 event CR passed across back direction =
     if flag_of ble_bit CR then
-      (if flag_of lpe_bit CR
-      then record { accum = word 32 back; cr = with_bit dir_bit direction (raised CR) }
-      else record { accum = word 32 across; cr =
-      with_bit lei_bit 1 (with_bit ble_bit 0 (raised CR)) })
+    (if flag_of lpe_bit CR
+    then record { accum = word 32 back; cr = with_bit dir_bit direction (raised CR) }
+    else record {
+      accum = word 32 across;
+      cr =
+          with_bit lei_bit 1 (with_bit ble_bit 0 (raised CR));
+    })
     else if flag_of lpe_bit CR then record { accum = word 32 across; cr = raised CR }
     else record { accum = passed; cr = with_bit stp0_bit 1 (raised CR) }

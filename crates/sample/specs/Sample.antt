@@ -50,8 +50,10 @@ second_at CR ACCUM = bank_of CR * bank_words + (ACCUM / whole_sample + 1) % bank
 
 unfoldable pub fetched : List ℕ → ℕ → ℕ → Words
 fetched memory CR ACCUM =
-    record { first = word_at memory (first_at CR ACCUM);
-    second = word_at memory (second_at CR ACCUM) }
+    record {
+      first = word_at memory (first_at CR ACCUM);
+      second = word_at memory (second_at CR ACCUM);
+    }
 
 -- how many of the two were missing: each counts by itself, also where F is 0 and the second is not
 -- heard

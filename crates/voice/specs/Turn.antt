@@ -20,8 +20,12 @@ use Rattle.voice.specs.Voice.{Voice, Levels, Turn}
 -- the last outputs of the poles: the (n-1) words, signed 18 bits
 unfoldable pub last_outputs : Voice → Poles
 last_outputs v =
-    record { o1 = signed 18 v.o1n1; o2 = signed 18 v.o2n1; o3 = signed 18 v.o3n1;
-    o4 = signed 18 v.o4n1 }
+    record {
+      o1 = signed 18 v.o1n1;
+      o2 = signed 18 v.o2n1;
+      o3 = signed 18 v.o3n1;
+      o4 = signed 18 v.o4n1;
+    }
 
 -- the outputs of the poles when x passes
 abbrev pub passing : ℤ → Voice → Poles
@@ -112,7 +116,7 @@ running_turn memory slow v =
     let p = passing (sampled memory v) v in
     record {
       voice = moved (with_outputs v p) (stepped v.cr v.fc v.start v.end v.accum)
-      (ramped_levels slow v);
+          (ramped_levels slow v);
       left = panned v.lvol p.o4;
       right = panned v.rvol p.o4;
     }

@@ -36,13 +36,19 @@ keep name c k = if c.name == name then kept_more c k else k
 -- of all chunks: of those of each name
 abbrev pub found_of : List Chunk → Found
 found_of cs =
-    record { format = kept_of (named format_name cs); pcm = kept_of (named data_name cs);
-    sampler = kept_of (named sampler_name cs) }
+    record {
+      format = kept_of (named format_name cs);
+      pcm = kept_of (named data_name cs);
+      sampler = kept_of (named sampler_name cs);
+    }
 
 abbrev pub with_chunk : Chunk → Found → Found
 with_chunk c f =
-    record { format = keep format_name c f.format; pcm = keep data_name c f.pcm;
-    sampler = keep sampler_name c f.sampler }
+    record {
+      format = keep format_name c f.format;
+      pcm = keep data_name c f.pcm;
+      sampler = keep sampler_name c f.sampler;
+    }
 
 -- format and data, where each is there just once
 abbrev pub both : Kept → Kept → Option (Chunk × Chunk)

@@ -82,8 +82,13 @@ refused_by a = record { answer = a; start = 0; end = 0; bits = 0; samples = 0 }
 
 abbrev pub taken_at : ℕ → Chunk → Option Loop → Imported
 taken_at word pcm l =
-    record { answer = Done; start = start_of word l; end = end_of word l; bits = loop_bits l;
-    samples = count_of pcm }
+    record {
+      answer = Done;
+      start = start_of word l;
+      end = end_of word l;
+      bits = loop_bits l;
+      samples = count_of pcm;
+    }
 
 unfoldable pub imported : List ℕ → ℕ → ℕ → Imported
 imported file room word =
