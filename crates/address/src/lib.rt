@@ -4,7 +4,7 @@
 //! the direction at the target, at the loop point and at the event.
 #![tactic(auto)]
 
-ghost use Rattle.std.specs.Prelude.{◌≡◌, ◌<◌, ◌≤◌, if◌then◌else◌};
+ghost use Rattle.std.specs.Prelude.{◌≡◌, ◌<◌, if◌then◌else◌};
 ghost use Rattle.numbers.specs.Numbers.{Within, word};
 ghost use Rattle.address.specs.Address.{raised, stepped};
 ghost use Rattle.address.specs.Address.{forward, reverse};

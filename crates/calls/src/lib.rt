@@ -1,7 +1,6 @@
 //! A call as a value, performed on a record: the six calls that take a record, in one.
 #![tactic(auto)]
 
-ghost use Rattle.std.specs.Prelude.{◌≡◌};
 ghost use Rattle.answer.specs.Answer.{answer_of, value_or};
 ghost use Rattle.calls.specs.Asks.{Performs};
 

@@ -4,7 +4,7 @@
 //! would have to say what it leaves past the text, which `Stored` does in one clause.
 #![tactic(auto)]
 
-ghost use Rattle.std.specs.Prelude.{◌≡◌, ◌++◌, ◌+◌, ◌*◌, ◌<◌, ◌≤◌, length};
+ghost use Rattle.std.specs.Prelude.{◌≡◌, ◌++◌, ◌+◌, ◌*◌, ◌≤◌, length};
 ghost use Rattle.numbers.specs.Numbers.{signed};
 ghost use Rattle.chart.specs.Chart.{number, line, lines, chart_answer, chart_output, Stored};
 

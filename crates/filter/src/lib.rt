@@ -4,7 +4,7 @@
 
 ghost use Rattle.std.specs.Prelude.{◌≡◌, ◌<◌, ℕ, ℤ, pos, ◌*ℤ◌};
 ghost use Rattle.numbers.specs.Numbers.{floor_div, Bits};
-ghost use Rattle.filter.specs.Filter.{low_pass, high_pass, coefficient, pole3, pole4, filtered};
+ghost use Rattle.filter.specs.Filter.{low_pass, high_pass, pole3, pole4, filtered};
 ghost use Rattle.filter.specs.PoleBits.{PoleBits};
 
 use std::marker::Model;

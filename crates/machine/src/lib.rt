@@ -6,11 +6,10 @@ ghost use Rattle.std.specs.Prelude.{◌≡◌, ◌&&◌, ◌+◌, ◌<◌, ◌�
 ghost use Rattle.answer.specs.Answer.{answer_of, value_or};
 ghost use Rattle.control.specs.Control.{with_bit};
 ghost use Rattle.machine.specs.Words.{bits_of, voice_bits, shared_bits, record_words, voice_count};
-ghost use Rattle.machine.specs.Words.{o3n2_word};
 ghost use Rattle.machine.specs.Words.{wait_mask_word, is_vector, waiting_voices, with_mask};
 ghost use Rattle.machine.specs.Kept.{in_voices, gathered_kept, sums_kept, shared_kept, Lanes};
 ghost use Rattle.machine.specs.Check.{checked};
-ghost use Rattle.machine.specs.Reset.{Resets, fresh};
+ghost use Rattle.machine.specs.Reset.{Resets};
 ghost use Rattle.machine.specs.Reset.{reset_word};
 ghost use Rattle.machine.specs.Waiting.{TellsWaiting};
 

@@ -7,7 +7,7 @@
 //! until then stands.
 #![tactic(auto)]
 
-ghost use Rattle.std.specs.Prelude.{◌≡◌, ◌*◌, ◌≤◌, ℕ, List, ◌++◌, length, take, OnOk};
+ghost use Rattle.std.specs.Prelude.{◌≡◌, ◌*◌, ◌≤◌, length, take, OnOk};
 ghost use Rattle.std.specs.Io.KnownBytes.{Appends};
 ghost use Rattle.wave_head.specs.Head.{sound_head};
 ghost use Rattle.scores.specs.Score.{most_full_bytes, most_frames, Good, commands_of, verdict_of};

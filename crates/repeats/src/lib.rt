@@ -9,7 +9,7 @@
 #![tactic(auto)]
 
 ghost use Rattle.std.specs.Prelude.{◌≡◌, if◌then◌else◌, ◌+◌, ◌≤◌, length, take};
-ghost use Rattle.layout.specs.Parts.{part, with_part};
+ghost use Rattle.layout.specs.Parts.{with_part};
 ghost use Rattle.repeats.specs.Repeats.{command_bytes, back_at, asked_at, repeats_at, stands_for};
 ghost use Rattle.repeats.specs.Repeats.{in_full};
 

@@ -9,7 +9,7 @@ ghost use Rattle.std.specs.Prelude.{slice_index, IsSome, ◌↔◌};
 ghost use Rattle.numbers.specs.Numbers.{Bits};
 ghost use Rattle.control.specs.Control.{runs};
 ghost use Rattle.filter.specs.PoleBits.{PoleBits};
-ghost use Rattle.machine.specs.Words.{voice_words, cr_word, fc_word, accum_word};
+ghost use Rattle.machine.specs.Words.{voice_words, cr_word};
 ghost use Rattle.voice.specs.Voice.{voice_of};
 ghost use Rattle.voice.specs.Turn.{sampled, last_outputs, levels_of};
 ghost use Rattle.voice.specs.Missed.{missed_by};

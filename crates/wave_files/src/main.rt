@@ -6,7 +6,7 @@
 //! written until then stands.
 #![tactic(auto)]
 
-ghost use Rattle.std.specs.Prelude.{◌+◌, ◌≤◌, length};
+ghost use Rattle.std.specs.Prelude.{◌≤◌, length};
 
 use answer::Refusal;
 use std::env::{Env, FillError};
