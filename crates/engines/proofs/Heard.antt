@@ -20,8 +20,8 @@ use Rattle.volume.specs.Volume.{mantissa, exponent, volume_of, panned}
 use Rattle.channel.specs.Channel.{mixed, put_out}
 use Rattle.ramp.specs.Ramp.{increment, ramped, slow_ramped}
 use Rattle.address.specs.Address.{raised, forward_event, forward, stepped}
-use Rattle.sample.specs.Sample.{first_at, second_at, sample_of, fetched, fraction, interpolated, missing_of}
-use Rattle.voice.specs.Turn.{last_outputs, ramped_levels, with_outputs, moved, stopped_turn, sampled, running_turn, turn_of}
+use Rattle.sample.specs.Sample.{first_at, second_at, sample_of, fetched, fraction, interpolated, missing_of, sampled}
+use Rattle.voice.specs.Turn.{last_outputs, ramped_levels, with_outputs, moved, stopped_turn, running_turn, turn_of}
 use Rattle.answer.specs.declared.Refusal.TheVariants.{OutputLength}
 use Rattle.machine.specs.Words.{cr_word, accum_word, actv_word, voice_word, shared_bits, bits_of, cut, cut_to, is_vector, has_true_mask, waiting_voices, with_mask, valid, irqv_word, no_interrupt}
 use Rattle.machine.specs.Voices.{voice_at, put_voice}

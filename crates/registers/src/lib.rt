@@ -8,8 +8,7 @@ ghost use Rattle.answer.specs.Answer.{answer_of, value_or};
 ghost use Rattle.machine.specs.Lent.{Leaves};
 ghost use Rattle.machine.specs.Words.{read_latch_word, wait_mask_word, cut, with_mask, valid};
 ghost use Rattle.registers.specs.Registers.{register_of, byte_of, with_byte, stored, written_to};
-ghost use Rattle.registers.specs.Registers.{read_as, side_effect, read_from};
-ghost use Rattle.registers.specs.Registers.{acknowledged};
+ghost use Rattle.registers.specs.Registers.{after_load, read_from, acknowledged};
 ghost use Rattle.registers.specs.Inside.{Inside};
 ghost use Rattle.registers.specs.Access.{asked, Writes, Reads, SetsPot};
 
@@ -181,10 +180,7 @@ fn store_word(m: &mut [u32], i: usize, x: u32)
 #[tactic(auto, using(machine::proofs::Valid::valid_long, crate::proofs::Valid::valid_word, crate::proofs::Valid::valid_read_latch, crate::proofs::Valid::valid_pot, crate::proofs::Valid::valid_acknowledged), unfolding(crate::specs::Registers::read_as, crate::specs::Registers::side_effect))]
 fn load(machine: &mut Machine, register: Register)
     requires { Inside register }
-    ensures { Leaves machine.old machine.new
-        (side_effect
-        (slice_set machine.old.words.now read_latch_word (read_as machine.old.words.now register))
-        register) }
+    ensures { Leaves machine.old machine.new (after_load machine.old.words.now register) }
 {
     match register {
         Register::Word(i) => machine.words[machine::READ_LATCH] = machine.words[i],

@@ -13,7 +13,7 @@ use lib.ListN.{get_or, set, replicate}
 use Rattle.numbers.specs.Numbers.{floor_div, floor_mod, signed, word, held}
 use Rattle.numbers.specs.Sum.{sum}
 use Rattle.control.specs.Control.{bit_of, flag_of, with_bit, runs, irq_bit}
-use Rattle.sample.specs.Sample.{first_at, second_at, fetched, missing_of, sample_of, fraction, interpolated}
+use Rattle.sample.specs.Sample.{first_at, second_at, fetched, missing_of, sample_of, fraction, interpolated, sampled}
 use Rattle.filter.specs.Filter.{low_pass, high_pass, coefficient, pole3, pole4, filtered}
 use Rattle.volume.specs.Volume.{mantissa, exponent, volume_of, panned}
 use Rattle.channel.specs.Channel.{mixed, put_out}
@@ -24,7 +24,7 @@ use Rattle.machine.specs.Check.{checked}
 use Rattle.machine.specs.Reset.{reset_answer, reset_word, words_from, fresh}
 use Rattle.registers.specs.Registers.{register_of, low_page, high_page, sum_page, with_byte, stored, written_to, read_as, acknowledged, side_effect, read_from}
 use Rattle.registers.specs.Access.{byte_answer, write_record, read_record}
-use Rattle.voice.specs.Turn.{ramped_levels, with_outputs, moved, sampled, stopped_turn, running_turn, turn_of, last_outputs}
+use Rattle.voice.specs.Turn.{ramped_levels, with_outputs, moved, stopped_turn, running_turn, turn_of, last_outputs}
 use Rattle.voice.specs.Voice.{words_of}
 use Rattle.voice.specs.Missed.{missed_by}
 use Rattle.frame.specs.Missing.{missed_in}

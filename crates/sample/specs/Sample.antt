@@ -72,3 +72,9 @@ fraction ACCUM = ACCUM % whole_sample / 4
 -- X = 4 * S1 + F * (S2 - S1) / 128
 unfoldable pub interpolated : ℕ → ℤ → ℤ → ℤ
 interpolated F s₁ s₂ = pos 4 *ℤ s₁ +ℤ floor_div (pos F *ℤ (s₂ -ℤ s₁)) 128
+
+-- the value between the two words fetched
+unfoldable pub sampled : List ℕ → ℕ → ℕ → ℤ
+sampled memory CR ACCUM =
+    let w = fetched memory CR ACCUM in
+    interpolated (fraction ACCUM) (sample_of CR w.first.bits) (sample_of CR w.second.bits)

@@ -4,8 +4,8 @@
 
 ghost use Rattle.std.specs.Prelude.{◌≡◌, if◌then◌else◌, ◌+◌, ◌*◌, ◌^◌, ◌<◌, length};
 ghost use Rattle.numbers.specs.Numbers.{Bits};
-ghost use Rattle.sample.specs.Sample.{as_word, word_at, fetched, missing_of, sample_of, fraction};
-ghost use Rattle.sample.specs.Sample.{interpolated, bank_words};
+ghost use Rattle.sample.specs.Sample.{as_word, word_at, fetched, missing_of, sample_of};
+ghost use Rattle.sample.specs.Sample.{interpolated, sampled, bank_words};
 ghost use Rattle.sample.specs.Lasts.{last_of, Lasts};
 
 /// How many words a bank has.
@@ -46,9 +46,7 @@ impl<'a> Samples<'a> {
     pub fn interpolate(&self, cr: u32, accum: u32, missing: &mut u32) -> i32
         requires cr_in_range { cr < 65536 }
         requires missing_fits { missing.old + 2 < 2 ^ 32 }
-        ensures value { (result ≡ interpolated (fraction accum)
-            (sample_of cr (fetched self.now.memory.now cr accum).first.bits)
-            (sample_of cr (fetched self.now.memory.now cr accum).second.bits)) × Bits 18 result }
+        ensures value { (result ≡ sampled self.now.memory.now cr accum) × Bits 18 result }
         ensures missing_after { missing.new ≡ missing.old + missing_of
             (fetched self.now.memory.now cr accum) }
     {

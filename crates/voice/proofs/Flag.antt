@@ -12,7 +12,7 @@ use lib.IntN.{ℤ, pos}
 use Rattle.numbers.proofs.Tests.{split, alongside}
 use Rattle.control.specs.Control.{flag_of, runs, lp3_bit, lp4_bit, cmpd_bit, irq_bit}
 use Rattle.control.proofs.Agree.{AgreeBut, flag_agrees, bank_agrees, runs_agrees}
-use Rattle.sample.specs.Sample.{fetched, sample_of, fraction, interpolated}
+use Rattle.sample.specs.Sample.{fetched, sample_of, fraction, interpolated, sampled}
 use Rattle.sample.proofs.Laws.{sample_coded, fetched_bank}
 use Rattle.filter.specs.Filter.{filtered}
 use Rattle.filter.proofs.Laws.{filtered_passes}
@@ -21,7 +21,7 @@ use Rattle.address.specs.Address.{stepped}
 use Rattle.address.proofs.Agree.{SamePlace, stepped_agrees}
 use Rattle.address.proofs.LoopEvent.{stepped_flag}
 use Rattle.voice.specs.Voice.{Voice, Turn}
-use Rattle.voice.specs.Turn.{last_outputs, ramped_levels, with_outputs, moved, sampled, stopped_turn, running_turn, turn_of}
+use Rattle.voice.specs.Turn.{last_outputs, ramped_levels, with_outputs, moved, stopped_turn, running_turn, turn_of}
 use Rattle.voice.specs.Missed.{missed_by}
 use Rattle.voice.specs.Raises.{raises}
 use Rattle.voice.proofs.Laws.{turn_runs, turn_stands}
@@ -80,7 +80,7 @@ module _ (v w : Voice) (h : ButFlag v w) where
       fetched_bank memory v.cr w.cr v.accum (bank_agrees v.cr w.cr h.cr)
       ∙ ap (λ (z : Voice). fetched memory w.cr z.accum) h.others
 
-  same_sample : (memory : List ℕ) → sampled memory v ≡ sampled memory w
+  same_sample : (memory : List ℕ) → sampled memory v.cr v.accum ≡ sampled memory w.cr w.accum
   unfolding beside_CR sampled
   same_sample memory =
       let f = same_fetch memory in
@@ -113,7 +113,7 @@ module _ (v w : Voice) (h : ButFlag v w) where
   running_same : (memory : List ℕ) (slow : ℕ) → SameTurn (running_turn memory slow v) (running_turn memory slow w)
   unfolding beside_CR with_outputs moved running_turn
   running_same memory slow =
-      let p = ap (λ (x : ℤ). filtered v.cr v.k1 v.k2 x (last_outputs v)) (same_sample memory) ∙ same_poles (sampled memory w) in
+      let p = ap (λ (x : ℤ). filtered v.cr v.k1 v.k2 x (last_outputs v)) (same_sample memory) ∙ same_poles (sampled memory w.cr w.accum) in
       let a = same_place in
       let l = same_levels slow in
       record {

@@ -14,8 +14,9 @@ use Rattle.filter.specs.Filter.{filtered}
 use Rattle.address.specs.Address.{stepped}
 use Rattle.address.proofs.Range.{stepped_small}
 use Rattle.ramp.specs.Ramp.{ramped, slow_ramped}
+use Rattle.sample.specs.Sample.{sampled}
 use Rattle.voice.specs.Voice.{Voice}
-use Rattle.voice.specs.Turn.{last_outputs, ramped_levels, with_outputs, moved, sampled, stopped_turn, running_turn, turn_of}
+use Rattle.voice.specs.Turn.{last_outputs, ramped_levels, with_outputs, moved, stopped_turn, running_turn, turn_of}
 use Rattle.voice.specs.Ranges.{Ranges, Leveled}
 use Rattle.voice.proofs.Laws.{with_outputs_ranges, moved_ranges, turn_runs, turn_stands}
 
@@ -60,7 +61,7 @@ levels_small slow v h = either Leveled (eqb v.ecount 0) _ _
 running_follows : (memory : List ℕ) (slow : ℕ) (v : Voice) → Ranges v → Places v → Follows v (running_turn memory slow v).voice
 unfolding running_turn with_outputs moved
 running_follows memory slow v h p =
-    let q = filtered v.cr v.k1 v.k2 (sampled memory v) (last_outputs v) in
+    let q = filtered v.cr v.k1 v.k2 (sampled memory v.cr v.accum) (last_outputs v) in
     let a = stepped_small v.cr v.fc v.start v.end v.accum h.cr p.start p.end in
     record {
       ranges = moved_ranges (with_outputs v q) (stepped v.cr v.fc v.start v.end v.accum) (ramped_levels slow v) (with_outputs_ranges v q h) a.cr (levels_small slow v h);

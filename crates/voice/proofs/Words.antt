@@ -13,8 +13,9 @@ use Rattle.numbers.specs.Numbers.{word}
 use Rattle.numbers.proofs.Tests.{listed, listed_at}
 use Rattle.filter.specs.declared.Poles.{Poles}
 use Rattle.address.specs.declared.Place.{Place}
+use Rattle.sample.specs.Sample.{sampled}
 use Rattle.voice.specs.Voice.{Levels, voice_of, words_of}
-use Rattle.voice.specs.Turn.{passing, levels_of, last_outputs, ramped_levels, with_outputs, moved, sampled, stopped_turn, running_turn}
+use Rattle.voice.specs.Turn.{passing, levels_of, last_outputs, ramped_levels, with_outputs, moved, stopped_turn, running_turn}
 use Rattle.voice.specs.Takes.{place_of, after_filters, after_step, after_ramps}
 
 -- ---- twenty words are the words of their voice
@@ -88,7 +89,7 @@ module _ (w : List ℕ) where
 
   -- the parts one after another are the turn
   pub parts_run : (memory : List ℕ) (slow : ℕ)
-      → after_ramps slow (after_step (after_filters (sampled memory (voice_of w)) w)) ≡ words_of (running_turn memory slow (voice_of w)).voice
+      → after_ramps slow (after_step (after_filters (sampled memory (voice_of w).cr (voice_of w).accum) w)) ≡ words_of (running_turn memory slow (voice_of w)).voice
   unfolding after_ramps after_step after_filters words_of with_outputs moved ramped_levels running_turn
   parts_run memory slow = refl
 

@@ -8,7 +8,7 @@
 use Rattle.std.specs.Prelude.{ℕ, ◌-◌, if◌then◌else◌, List, ◌==◌, ℤ, pos}
 use Rattle.numbers.specs.Numbers.{signed, word}
 use Rattle.control.specs.Control.{runs}
-use Rattle.sample.specs.Sample.{fetched, sample_of, fraction, interpolated}
+use Rattle.sample.specs.Sample.{sampled}
 use Rattle.filter.specs.Filter.{filtered}
 use Rattle.filter.specs.declared.Poles.{Poles}
 use Rattle.volume.specs.Volume.{panned}
@@ -104,16 +104,10 @@ moved v a l =
 unfoldable pub stopped_turn : Voice → Turn
 stopped_turn v = record { voice = with_outputs v (passing (pos 0) v); left = pos 0; right = pos 0 }
 
--- the value that a running voice's poles take in
-unfoldable pub sampled : List ℕ → Voice → ℤ
-sampled memory v =
-    let w = fetched memory v.cr v.accum in
-    interpolated (fraction v.accum) (sample_of v.cr w.first.bits) (sample_of v.cr w.second.bits)
-
 -- A running voice: sample, filters, volume, address and ramps.
 unfoldable pub running_turn : List ℕ → ℕ → Voice → Turn
 running_turn memory slow v =
-    let p = passing (sampled memory v) v in
+    let p = passing (sampled memory v.cr v.accum) v in
     record {
       voice = moved (with_outputs v p) (stepped v.cr v.fc v.start v.end v.accum)
           (ramped_levels slow v);

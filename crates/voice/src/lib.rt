@@ -11,7 +11,8 @@ ghost use Rattle.control.specs.Control.{runs};
 ghost use Rattle.filter.specs.PoleBits.{PoleBits};
 ghost use Rattle.machine.specs.Words.{voice_words, cr_word};
 ghost use Rattle.voice.specs.Voice.{voice_of};
-ghost use Rattle.voice.specs.Turn.{sampled, last_outputs, levels_of};
+ghost use Rattle.sample.specs.Sample.{sampled};
+ghost use Rattle.voice.specs.Turn.{last_outputs, levels_of};
 ghost use Rattle.voice.specs.Missed.{missed_by};
 ghost use Rattle.voice.specs.Ranges.{Ranges, Leveled};
 ghost use Rattle.voice.specs.Takes.{after_step, after_ramps, Passes, TakesTurn, as_addend};
@@ -74,8 +75,8 @@ pub fn turn(w: &mut [u32], slow: u32, samples: &Samples, missing: &mut u32) -> O
 fn input(w: &Words, samples: &Samples, missing: &mut u32) -> i32
     requires cr_in_range { slice_index w.now cr_word < 65536 }
     requires missing_fits { missing.old + 2 < 2 ^ 32 }
-    ensures value { (result
-        ≡ (if runs (slice_index w.now cr_word) then sampled samples.now.memory.now (voice_of w.now)
+    ensures value { (result ≡ (if runs (voice_of w.now).cr
+        then sampled samples.now.memory.now (voice_of w.now).cr (voice_of w.now).accum
         else pos 0)) × Bits 18 result }
     ensures missing_after { missing.new ≡ missing.old + missed_by samples.now.memory.now
         (voice_of w.now) }

@@ -4,7 +4,6 @@ use native.Mathlib.Nat.{add-zero}
 use mir.Syntax.{w32}
 use Rattle.numbers.specs.Numbers.{Bits}
 use Rattle.numbers.proofs.Local.{handed}
-use Rattle.voice.specs.Turn.{sampled}
 use Rattle.voice.specs.Missed.{missed_by}
 use Rattle.voice.proofs.input.Goals as goal
 
@@ -13,7 +12,6 @@ unfolding missed_by
 returns-then-not-running-clause-missing_after c = rw (sym c.running.ensures ∙ c.if-not-running.true) (sym (add-zero c.args.missing.now))
 
 pub returns-clause-value : goal.returns-clause-value
-unfolding sampled
 returns-clause-value c =
     let i = c.interpolate in
     handed w32 (Bits 18) i.type_inv i.ensures.value (rw (sym c.running.ensures ∙ c.if-not-running.false))

@@ -12,9 +12,10 @@ use Rattle.numbers.specs.Numbers.{Within}
 use Rattle.numbers.proofs.Local.{back, handed}
 use Rattle.control.specs.Control.{runs}
 use Rattle.volume.specs.Volume.{panned}
+use Rattle.sample.specs.Sample.{sampled}
 use Rattle.voice.specs.declared.Addend.{Addend}
 use Rattle.voice.specs.Voice.{Turn, voice_of, words_of}
-use Rattle.voice.specs.Turn.{passing, levels_of, sampled, running_turn, stopped_turn}
+use Rattle.voice.specs.Turn.{passing, levels_of, running_turn, stopped_turn}
 use Rattle.voice.specs.Ranges.{Ranges, Leveled}
 use Rattle.voice.specs.Takes.{TakesTurn, after_filters, after_step, after_ramps}
 use Rattle.voice.proofs.Laws.{turn_runs, turn_stands}
@@ -64,8 +65,8 @@ returns-then-runs-clause-takes_turn c =
     let t = turn_runs m slow v on in
     let i = c.input-x in
     let p = c.pass-o4 in
-    let x : to_z w32 (of_z w32 i.result) ≡ sampled m v = back w32 i.type_inv ∙ i.ensures.value.0 ∙ rw on in
-    let o4 : to_z w32 (of_z w32 p.result) ≡ (passing (sampled m v) v).o4 = back w32 p.type_inv ∙ p.ensures.output ∙ ap (λ (y : ℤ). (passing y v).o4) x in
+    let x : to_z w32 (of_z w32 i.result) ≡ sampled m v.cr v.accum = back w32 i.type_inv ∙ i.ensures.value.0 ∙ rw on in
+    let o4 : to_z w32 (of_z w32 p.result) ≡ (passing (sampled m v.cr v.accum) v).o4 = back w32 p.type_inv ∙ p.ensures.output ∙ ap (λ (y : ℤ). (passing y v).o4) x in
     let k = kept w _ p.ensures.words in
     let left = handed w32 (Within 1048576) c.pan-left.type_inv c.pan-left.ensures ((λ i. panned (k i).lvol (o4 i)) ∙ ap (λ (u : Turn). u.left) (sym t)) in
     let right = handed w32 (Within 1048576) c.pan-right.type_inv c.pan-right.ensures ((λ i. panned (k i).rvol (o4 i)) ∙ ap (λ (u : Turn). u.right) (sym t)) in

@@ -9,7 +9,7 @@ use Rattle.std.specs.Prelude.{Option, None, Some}
 use Rattle.std.specs.Option.{unwrap_or}
 use Rattle.numbers.specs.Numbers.{Bits}
 use Rattle.numbers.proofs.Local.{handed, back}
-use Rattle.sample.specs.Sample.{as_word, MemoryWord, fraction, interpolated, sample_of, missing_of}
+use Rattle.sample.specs.Sample.{as_word, MemoryWord, fraction, interpolated, sample_of, missing_of, sampled}
 use Rattle.sample.proofs.Samples.interpolate.Goals as goal
 
 -- a word's bits, as the code has them
@@ -22,7 +22,7 @@ abbrev one_for : MemoryWord → ℕ
 one_for m = cond m.there 0 1
 
 pub returns-clause-value : goal.returns-clause-value
-unfolding fraction
+unfolding fraction sampled
 returns-clause-value c =
     let n = c.args.accum % 2048 / 4 in
     let a = c.sample_of-s1 in
