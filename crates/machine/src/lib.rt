@@ -298,7 +298,7 @@ pub fn mark(m: &mut [u32], v: usize, b: bool)
 }
 
 /// Which voices wait, for the host to see in one look.
-// The length is found for a word of any number, by `done_long`: no proof names the word.
+// `done_long`: a record that is not refused has all its words.
 #[tactic(auto, using(crate::proofs::Answers::done_long))]
 pub fn waiting(m: &[u32]) -> Result<u32, Refusal>
     ensures { TellsWaiting m.now (answer_of result) (value_or 0 result) }

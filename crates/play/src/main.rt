@@ -1,10 +1,10 @@
 //! Plays a score from standard input and writes what is heard of it as a WAVE file: stereo, 16
 //! bits, 31,250 samples a second.
 //! On standard error it says how far it is, and at the end the loudest sample and how many calls
-//! were refused. A score that is not good gives a line there and nothing else, and the status 2.
-//! What a score is, and what is heard of it, is the crate `scores`. A failed read or write of
-//! standard input or output ends the program with its error and the status 1; what was written
-//! until then stands.
+//! were refused. A score that is not good gives a line there and nothing else, and the status 2 (1
+//! where the line cannot be written). What a score is, and what is heard of it, is the crate
+//! `scores`. A failed read or write of standard input or output ends the program with its error and
+//! the status 1; what was written until then stands.
 #![tactic(auto)]
 
 ghost use Rattle.std.specs.Prelude.{◌≡◌, ◌*◌, ◌≤◌, length, take, OnOk};

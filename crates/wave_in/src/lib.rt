@@ -21,9 +21,8 @@ use answer::Refusal;
 use chunks::Chunk;
 use wave::Loop;
 
-// The greatest number of 32 bits. END is a number of whole samples, so it fits its register exactly
-// where it is not greater.
-const GREATEST_REGISTER: usize = 4294967295;
+// END is a number of whole samples, so it fits its register exactly where it is not greater.
+const GREATEST_OF_32_BITS: usize = 4294967295;
 
 /// What an import gives. Without a loop START, END and the bits are 0.
 // Zeros and no Option: these are the four numbers of the C interface.
@@ -141,7 +140,7 @@ fn has_no_place(room: usize, word: usize, count: usize, looped: Option<Loop>) ->
     room < count
         || room - count < word
         || bank_words < word % bank_words + count
-        || GREATEST_REGISTER < end_of(word, looped)
+        || GREATEST_OF_32_BITS < end_of(word, looped)
 }
 
 // ---- the samples
