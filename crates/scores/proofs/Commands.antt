@@ -3,7 +3,7 @@
 use mathlib.Core.Path.{◌≡◌, refl, sym, ap, ◌∙◌}
 use mathlib.Core.Bool.{Bool, ◌&&◌}
 use mathlib.Core.List.{List, []}
-use Prim.Native.Nat.{ℕ, zero, suc, ◌+◌, ◌*◌, ◌/◌, ◌≤◌, ◌<◌}
+use Prim.Native.Nat.{ℕ, zero, suc, ◌+◌, ◌*◌, ◌≤◌, ◌<◌}
 use native.Mathlib.Numerals.{add-one}
 use native.Mathlib.Omega.{arith}
 use lib.Dec.{ltb, eqb}
@@ -17,11 +17,9 @@ use Rattle.std.proofs.lemmas.List.Folds.{list_all_more}
 use Rattle.numbers.specs.Sum.{sum}
 use Rattle.numbers.proofs.Tests.{either}
 use Rattle.layout.specs.Parts.{part}
-use Rattle.layout.specs.Bytes.{big2_at}
 use Rattle.layout.proofs.Bytes.{part_2}
 use Rattle.layout.proofs.Endian.{big_2_at}
 use Rattle.repeats.specs.Repeats.{command_bytes, command_count, kind_at, number_at, byte_at}
-use Rattle.layout.proofs.Parts.{chunk_is}
 use Rattle.repeats.proofs.Command.{command_is, own_kind, own_number, own_byte}
 use Rattle.scores.specs.Score.{command_of, command_at, command_no, times_of, frames_of, first_below, all_below}
 use Rattle.scores.specs.declared.Command.{Command}
